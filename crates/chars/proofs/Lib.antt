@@ -1,0 +1,4 @@
+pub mod Second
+pub mod Laws
+pub mod Reading
+pub mod Encoding
