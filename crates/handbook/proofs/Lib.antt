@@ -1,0 +1,4 @@
+pub mod Examples
+pub mod Characters
+pub mod Columns
+pub mod Measuring

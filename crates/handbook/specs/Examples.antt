@@ -1,0 +1,55 @@
+-- The starred examples of document 01, as one table: what the definitions give, a row each, beside what the document says.
+use Prim.Native.Nat.{ℕ}
+use mathlib.Core.List.{List, [], _∷_}
+use Rattle.units.specs.declared.Answer.{Answer}
+use Rattle.measure.specs.Measure.{measureOf, answerOf}
+
+-- An answer as number, place and count.
+abbrev pub numbers : Answer → List ℕ
+numbers a = a .number ∷ a .place ∷ a .count ∷ []
+
+abbrev pub measured : List ℕ → List ℕ
+measured text = numbers (answerOf (measureOf text))
+
+-- ---- the texts, as bytes
+
+-- `Café Plain`
+abbrev pub cafePlain : List ℕ
+cafePlain = 0x43 ∷ 0x61 ∷ 0x66 ∷ 0xC3 ∷ 0xA9 ∷ 0x20 ∷ 0x50 ∷ 0x6C ∷ 0x61 ∷ 0x69 ∷ 0x6E ∷ []
+
+-- ESC `[31mCafé Rouge` ESC `[0m`
+abbrev pub cafeRouge : List ℕ
+cafeRouge = 0x1B ∷ 0x5B ∷ 0x33 ∷ 0x31 ∷ 0x6D ∷ 0x43 ∷ 0x61 ∷ 0x66 ∷ 0xC3 ∷ 0xA9 ∷ 0x20 ∷ 0x52 ∷ 0x6F ∷ 0x75 ∷ 0x67 ∷ 0x65 ∷ 0x1B ∷ 0x5B ∷ 0x30 ∷ 0x6D ∷ []
+
+-- U+4F60 U+597D
+abbrev pub niHao : List ℕ
+niHao = 0xE4 ∷ 0xBD ∷ 0xA0 ∷ 0xE5 ∷ 0xA5 ∷ 0xBD ∷ []
+
+-- `Cafe` U+0301 ` Plain`
+abbrev pub cafeAccent : List ℕ
+cafeAccent = 0x43 ∷ 0x61 ∷ 0x66 ∷ 0x65 ∷ 0xCC ∷ 0x81 ∷ 0x20 ∷ 0x50 ∷ 0x6C ∷ 0x61 ∷ 0x69 ∷ 0x6E ∷ []
+
+-- `ab ` ESC `]cd ef`
+abbrev pub openString : List ℕ
+openString = 0x61 ∷ 0x62 ∷ 0x20 ∷ 0x1B ∷ 0x5D ∷ 0x63 ∷ 0x64 ∷ 0x20 ∷ 0x65 ∷ 0x66 ∷ []
+
+-- ---- the table
+
+abbrev pub given : List (List ℕ)
+given =
+    measured cafePlain
+    ∷ measured cafeRouge
+    ∷ measured niHao
+    ∷ measured cafeAccent
+    ∷ measured openString
+    ∷ []
+
+-- 0 is success, with place 0; the count is the columns
+abbrev pub wanted : List (List ℕ)
+wanted =
+    (0 ∷ 0 ∷ 10 ∷ [])
+    ∷ (0 ∷ 0 ∷ 10 ∷ [])
+    ∷ (0 ∷ 0 ∷ 4 ∷ [])
+    ∷ (0 ∷ 0 ∷ 11 ∷ [])
+    ∷ (0 ∷ 0 ∷ 3 ∷ [])
+    ∷ []

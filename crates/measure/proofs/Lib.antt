@@ -1,0 +1,4 @@
+pub mod Cases
+pub mod Walk
+pub mod Wording
+pub mod Laws

@@ -1,0 +1,4 @@
+pub mod Escapes
+pub mod Measure
+pub mod Walk
+pub mod Wording
