@@ -1,0 +1,58 @@
+//! What every benchmark shares: the clock, the table, the texts.
+
+pub mod texts;
+
+use std::hint::black_box;
+use std::time::{Duration, Instant};
+
+/// Ours and theirs take turns, so that a slow moment of the machine strikes both. The fastest
+/// of all rounds counts: what is slower was disturbed.
+const ROUNDS: usize = 40;
+/// A round is long enough for the clock to be exact.
+const ROUND: Duration = Duration::from_millis(5);
+
+/// Times as a table, a row for each kind of input.
+pub struct Table;
+
+impl Table {
+    /// Prints the head of a table.
+    pub fn new(what: &str) -> Table {
+        println!("{what:<12} {:>14} {:>14} {:>14}", "ours ns/byte", "crate ns/byte", "crate / ours");
+        Table
+    }
+
+    /// Times both on one input and prints a row. Above 1 in the last column, ours is faster.
+    /// Both answer what they computed, and it must be the same.
+    pub fn row(&mut self, name: &str, bytes: usize, ours: impl Fn() -> usize, theirs: impl Fn() -> usize) {
+        assert_eq!(ours(), theirs(), "{name}: ours and the crate's differ");
+        let (our_turns, their_turns) = (turns_in_a_round(&ours), turns_in_a_round(&theirs));
+        let (mut our_best, mut their_best) = (f64::MAX, f64::MAX);
+        for _ in 0..ROUNDS {
+            our_best = our_best.min(nanoseconds(&ours, our_turns));
+            their_best = their_best.min(nanoseconds(&theirs, their_turns));
+        }
+        let per_byte = |nanoseconds: f64| nanoseconds / bytes as f64;
+        let (our_best, their_best) = (per_byte(our_best), per_byte(their_best));
+        println!("{name:<12} {our_best:>14.3} {their_best:>14.3} {:>14.2}", their_best / our_best);
+    }
+}
+
+/// How often `work` is done in a round. Finding out warms it up.
+fn turns_in_a_round(work: &impl Fn() -> usize) -> u32 {
+    let start = Instant::now();
+    let mut turns = 0;
+    while start.elapsed() < ROUND {
+        black_box(work());
+        turns += 1;
+    }
+    turns
+}
+
+/// The time of one turn, out of one round.
+fn nanoseconds(work: &impl Fn() -> usize, turns: u32) -> f64 {
+    let start = Instant::now();
+    for _ in 0..turns {
+        black_box(work());
+    }
+    start.elapsed().as_nanos() as f64 / f64::from(turns)
+}

@@ -1,0 +1,127 @@
+//! Safe Rust over Kenupatun, a proved rebuild of the core of the crate `textwrap`.
+//!
+//! Kenupatun is written in Rattle and proved: what each function answers is settled by
+//! a definition, on every input. This crate calls it through its C interface
+//! (`include/kenupatun.h`) and adds nothing to what it answers.
+//!
+//! Each function comes in two forms. The plain one ([`measure`]) gives the [`Answer`] as
+//! it comes back: a number, a place and a count. The other ([`display_width`]) bears the
+//! name that the crate `textwrap` gives it and answers a [`Result`].
+//!
+//! A text is a slice of bytes, because Kenupatun tests by itself that it is UTF-8.
+//!
+//! ```
+//! use kenupatun::{display_width, measure, Answer, Refusal};
+//!
+//! assert_eq!(display_width("Café Plain".as_bytes()), Ok(10));
+//! assert_eq!(display_width("\u{1b}[31mCafé Rouge\u{1b}[0m".as_bytes()), Ok(10));
+//! assert_eq!(measure("你好".as_bytes()), Answer { number: 0, place: 0, count: 4 });
+//!
+//! // The third byte starts no character.
+//! let refused = display_width(b"ab\xFF").unwrap_err();
+//! assert_eq!(refused, Refusal { number: 2, place: 2 });
+//! assert_eq!(refused.to_string(), "the text is not UTF-8: no character starts at byte 2");
+//! ```
+//!
+//! Building needs the archive `libkenupatun.a`, and so a program for x86-64: see `build.rs`.
+
+#![warn(missing_docs)]
+
+use std::error::Error;
+use std::fmt;
+
+/// The functions as C sees them. Each has a safe one of the same name below.
+mod raw {
+    use super::Answer;
+
+    extern "C" {
+        pub fn kenupatun_measure(text: *const u8, text_len: usize) -> Answer;
+    }
+}
+
+/// A text has at most this many bytes.
+pub const TEXT_MOST: usize = 60_000;
+
+/// What every function of Kenupatun answers.
+#[repr(C)]
+#[derive(Clone, Copy, Debug, PartialEq, Eq, Hash)]
+pub struct Answer {
+    /// 0: done. Any other: refused, and the number says why (see [`Refusal`]).
+    pub number: u32,
+    /// 0 when done. When refused, where the fault is.
+    pub place: u64,
+    /// What was asked for, such as the columns of a text. 0 when refused.
+    pub count: u64,
+}
+
+impl Answer {
+    /// The count, or why there is none.
+    pub fn result(self) -> Result<usize, Refusal> {
+        match self.number {
+            0 => Ok(self.count as usize),
+            number => Err(Refusal { number, place: self.place as usize }),
+        }
+    }
+}
+
+/// Why a function of Kenupatun refused its input. It has changed nothing that it was lent.
+#[derive(Clone, Copy, Debug, PartialEq, Eq, Hash)]
+pub struct Refusal {
+    /// The reason, never 0. [`Display`](fmt::Display) says it in words.
+    pub number: u32,
+    /// Where the fault is. What it counts, bytes or places of a list, depends on the number.
+    pub place: usize,
+}
+
+impl fmt::Display for Refusal {
+    fn fmt(&self, f: &mut fmt::Formatter<'_>) -> fmt::Result {
+        let place = self.place;
+        match self.number {
+            1 => write!(f, "the text has {place} bytes, more than {TEXT_MOST}"),
+            2 => write!(f, "the text is not UTF-8: no character starts at byte {place}"),
+            3 => write!(f, "the line width at index {place} exceeds 255"),
+            4 => write!(f, "there are more than 4096 fragments"),
+            5 => write!(f, "the three lists of fragments differ in length"),
+            6 => write!(f, "the penalty at index {place} exceeds 1000000"),
+            7 => write!(f, "a list is too short: {place} places are needed"),
+            8 => write!(f, "the least cost exceeds 2^53"),
+            9 => write!(f, "the two texts differ in length"),
+            10 => write!(f, "the change of byte {place} is not an allowed break"),
+            11 => write!(f, "the line at byte {place} has two or more words and is too wide"),
+            12 => write!(f, "the input line at byte {place} has more lines than it needs"),
+            13 => write!(f, "a record starts with a wrong mark"),
+            14 => write!(f, "the input ends inside a record"),
+            number => write!(f, "refusal {number} at place {place}"),
+        }
+    }
+}
+
+impl Error for Refusal {}
+
+/// The columns of a text, as an [`Answer`]. Refusals: 1, then 2.
+///
+/// A character below U+1100 is 1 column wide, any other 2. An escape, from ESC to its end,
+/// has no columns; one that never ends runs to the end of the text.
+///
+/// ```
+/// use kenupatun::{measure, Answer};
+///
+/// assert_eq!(measure(b"ab \x1b]cd ef"), Answer { number: 0, place: 0, count: 3 });
+/// assert_eq!(measure(&[b'a'; 60_001]), Answer { number: 1, place: 60_001, count: 0 });
+/// ```
+pub fn measure(text: &[u8]) -> Answer {
+    // SAFETY: pointer and length are those of a live slice, and nothing is written through them.
+    unsafe { raw::kenupatun_measure(text.as_ptr(), text.len()) }
+}
+
+/// The columns of a text, or why it is refused: [`measure`] as a [`Result`].
+///
+/// ```
+/// use kenupatun::display_width;
+///
+/// let link = b"\x1b]8;;http://example.com\x1b\\This is a link\x1b]8;;\x1b\\";
+/// assert_eq!(display_width(link), Ok(14));
+/// ```
+pub fn display_width(text: &[u8]) -> Result<usize, Refusal> {
+    measure(text).result()
+}

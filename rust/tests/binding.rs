@@ -1,0 +1,54 @@
+//! The binding itself: how an answer lies in memory, and what a refusal says.
+
+use std::mem::{align_of, offset_of, size_of};
+
+use kenupatun::{display_width, measure, Answer, Refusal};
+
+/// As `kenupatun.h` has it.
+#[test]
+fn an_answer_lies_as_in_c() {
+    assert_eq!((size_of::<Answer>(), align_of::<Answer>()), (24, 8));
+    assert_eq!(offset_of!(Answer, number), 0);
+    assert_eq!(offset_of!(Answer, place), 8);
+    assert_eq!(offset_of!(Answer, count), 16);
+}
+
+#[test]
+fn an_empty_slice_is_an_empty_text() {
+    let nothing = Answer { number: 0, place: 0, count: 0 };
+    assert_eq!(measure(&[]), nothing);
+    assert_eq!(measure(&b"abc"[3..]), nothing);
+    assert_eq!(measure(&Vec::new()), nothing);
+}
+
+/// A slice may start at any address.
+#[test]
+fn a_slice_is_read_from_its_start_to_its_end() {
+    let text = "a你é\u{1F600}b".repeat(20);
+    for from in 0..32 {
+        if text.is_char_boundary(from) {
+            let part = &text[from..from + 11 * 4];
+            let columns = part.chars().map(|c| if c < '\u{1100}' { 1 } else { 2 }).sum();
+            assert_eq!(display_width(part.as_bytes()), Ok(columns));
+        }
+    }
+}
+
+#[test]
+fn a_refusal_speaks_plainly() {
+    let said = |text: &[u8]| display_width(text).unwrap_err().to_string();
+    assert_eq!(said(&[b'a'; 60_001]), "the text has 60001 bytes, more than 60000");
+    assert_eq!(said(b"abc\xC0\x80"), "the text is not UTF-8: no character starts at byte 3");
+    let unknown = Refusal { number: 99, place: 7 };
+    assert_eq!(unknown.to_string(), "refusal 99 at place 7");
+}
+
+/// No two refusals of document 01 say the same, and none is without words.
+#[test]
+fn every_refusal_has_words() {
+    let said: Vec<String> = (1..=14).map(|number| Refusal { number, place: 5 }.to_string()).collect();
+    for (at, words) in said.iter().enumerate() {
+        assert!(!words.starts_with("refusal"), "{words}");
+        assert!(!said[..at].contains(words), "{words}");
+    }
+}
