@@ -68,6 +68,36 @@ fn examples_of_document_01() {
     }
 }
 
+/// The rows of docs/DIFFERENCES.md: where the crate, and so Kenupatun, leaves ECMA-48.
+#[test]
+fn departures_from_ecma_48() {
+    for (text, columns) in [
+        ("\u{1B}[\u{4F60}m", 0),
+        ("\u{1B}[\u{1B}[m", 1),
+        ("\u{1B}]\u{07}a", 1),
+        ("\u{1B}]\u{9C}a", 0),
+        ("\u{9B}m", 2),
+        ("\u{9D}\u{07}", 2),
+        ("\u{1B}Pa\u{1B}\\", 1),
+        ("\u{1B}(B", 1),
+        ("\n", 1),
+        ("\u{200D}", 2),
+    ] {
+        assert_eq!(measure(text.as_bytes()), done(columns), "{text:?}");
+        hold(text.as_bytes());
+    }
+}
+
+/// The columns of one text after another are not the sum of theirs, to either side.
+#[test]
+fn width_is_no_sum() {
+    for (first, second, both) in [("a\u{1B}]", "b", 1), ("\u{1B}[", "\u{1B}[m", 1)] {
+        let sum = measure(first.as_bytes()).count + measure(second.as_bytes()).count;
+        assert_ne!(sum, both, "{first:?} {second:?}");
+        assert_eq!(measure(format!("{first}{second}").as_bytes()), done(both), "{first:?} {second:?}");
+    }
+}
+
 // ---- texts that are UTF-8
 
 #[test]

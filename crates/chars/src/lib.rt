@@ -148,7 +148,23 @@ fn read_four(text: &[u8], at: Offset) -> Read
     Read::Fault(at)
 }
 
-// The character that starts at a place. Its first byte tells how many there are.
+// The character of several bytes at a place, or the fault there. The first byte tells how many there are.
+fn read_long(text: &[u8], at: Offset) -> Read
+    requires { ⌜ Lead (now text) (at .0) 0x80 0xFF ⌝ }
+    ensures { λ r. ⌜ r ≡ readAt (now (text .entry)) (at .0) ⌝ }
+{
+    let i = at.0;
+    let a = text[i];
+    if a < 0xE0 {
+        return read_two(text, at);
+    }
+    if a < 0xF0 {
+        return read_three(text, at);
+    }
+    read_four(text, at)
+}
+
+// The character that starts at a place. A byte below 80 is one by itself.
 pub fn read_char(text: &[u8], at: Offset) -> Read
     ensures { λ r. ⌜ r ≡ readAt (now (text .entry)) (at .0) ⌝ }
 {
@@ -160,13 +176,7 @@ pub fn read_char(text: &[u8], at: Offset) -> Read
     if a < 0x80 {
         return Read::Char(a as u32, Offset(i + 1));
     }
-    if a < 0xE0 {
-        return read_two(text, at);
-    }
-    if a < 0xF0 {
-        return read_three(text, at);
-    }
-    read_four(text, at)
+    read_long(text, at)
 }
 
 // Whether a text is UTF-8, or its first fault.

@@ -1,15 +1,13 @@
 // The columns of a text: escapes, which take none, and the width of a character. Follows `core.rs`:
-// `ch_width`, `skip_ansi_escape_sequence` and `display_width` have their names there.
+// `ch_width` and `display_width` have their names there; `next_mode` does the work of
+// `skip_ansi_escape_sequence`.
 //
 // There is one walk over characters, `columns_until`, and it can be told a character to stop before. To
 // measure a text it is told none; to measure a word it is told the space. No rule about words, lines or
 // widths of lines stands here.
 ghost use mathlib.Core.Path.{_≡_};
-ghost use Prim.Native.Nat.{_<_};
-ghost use lib.ListN.{length};
 ghost use Rattle.measure.specs.Escapes.{columns, next, inText};
 ghost use Rattle.measure.specs.Measure.{passedOf, measureOf, answerOf};
-ghost use Rattle.measure.specs.Walk.{Passes, Steps};
 use chars::Read;
 use units::Answer;
 use units::Columns;
@@ -120,46 +118,6 @@ fn next_mode(m: Mode, c: u32) -> Mode
     }
 }
 
-// Passes the rest of an escape, `from` standing directly after its ESC: to where it ends, or before
-// `stop`, or to the end of the text.
-fn skip_ansi_escape_sequence(text: &[u8], from: Offset, stop: u32) -> Passed
-    ensures { λ r. ⌜ Passes stop (now (text .entry)) (from .0) Mode.Esc r ⌝ }
-{
-    let mut at = from;
-    let mut mode = Mode::Esc;
-    while at.0 < text.len() {
-        let Read::Char(c, after) = chars::read_char(text, at) else {
-            return Passed::Fault(at);
-        };
-        if c == stop {
-            return Passed::To(Columns(0), at);
-        }
-        mode = next_mode(mode, c);
-        at = after;
-        if is_text(mode) {
-            return Passed::To(Columns(0), at);
-        }
-    }
-    Passed::To(Columns(0), at)
-}
-
-// Passes one character of plain text, or one whole escape, or nothing where `stop` stands.
-fn step(text: &[u8], at: Offset, stop: u32) -> Passed
-    requires { ⌜ at .0 < length (now text) ⌝ }
-    ensures { λ r. ⌜ Steps stop (now (text .entry)) (at .0) r ⌝ }
-{
-    let Read::Char(c, after) = chars::read_char(text, at) else {
-        return Passed::Fault(at);
-    };
-    if c == stop {
-        return Passed::To(Columns(0), at);
-    }
-    if c == ESC {
-        return skip_ansi_escape_sequence(text, after, stop);
-    }
-    Passed::To(Columns(ch_width(c)), after)
-}
-
 // The columns of the characters from a place up to the first that is `stop`, or else to the end of the
 // text, and the place of that; or the fault that is met before.
 pub fn columns_until(text: &[u8], from: Offset, stop: u32) -> Passed
@@ -167,19 +125,24 @@ pub fn columns_until(text: &[u8], from: Offset, stop: u32) -> Passed
 {
     let mut at = from;
     let mut cols = Columns(0);
+    let mut mode = Mode::Text;
     while at.0 < text.len() {
-        match step(text, at, stop) {
-            Passed::To(more, after) => {
-                if after.0 == at.0 {
-                    return Passed::To(cols, at);
-                }
-                let sum = cols.0 + more.0;
+        let Read::Char(c, after) = chars::read_char(text, at) else {
+            return Passed::Fault(at);
+        };
+        if c == stop {
+            return Passed::To(cols, at);
+        }
+        at = after;
+        if is_text(mode) {
+            if c == ESC {
+                mode = Mode::Esc;
+            } else {
+                let sum = cols.0 + ch_width(c);
                 cols = Columns(sum);
-                at = after;
             }
-            Passed::Fault(fault) => {
-                return Passed::Fault(fault);
-            }
+        } else {
+            mode = next_mode(mode, c);
         }
     }
     Passed::To(cols, at)

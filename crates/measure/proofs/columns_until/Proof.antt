@@ -9,25 +9,31 @@ use Rattle.measure.proofs.columns_until.Statement.{statement}
 use Rattle.measure.proofs.columns_until.Tie as tie
 
 abbrev Inv-loop : tie.InvT-loop
-Inv-loop text stop at₀ cols₀ at cols = Leads stop text (at₀ .0) Text (at .0) (cols .0) Text
+Inv-loop text stop at₀ cols₀ mode₀ at cols mode = Leads stop text (at₀ .0) Text (at .0) (cols .0) mode
 
 abbrev μ-loop : tie.MeasureT-loop
-μ-loop text stop at₀ cols₀ at cols = length text - at .0
+μ-loop text stop at₀ cols₀ mode₀ at cols mode = length text - at .0
 
 loop-holds : tie.Need-loop-holds Inv-loop μ-loop
 loop-holds c = search (walking, needs)
 
-step-requires : tie.Need-step-requires Inv-loop μ-loop
-step-requires c κs = search (walking, needs)
+read-char-requires : tie.Need-read-char-requires Inv-loop μ-loop
+read-char-requires c κs = search (walking, needs)
 
-enum-known-more : tie.Need-enum-known-more Inv-loop μ-loop
-enum-known-more c = search (walking, needs)
+enum-known-c : tie.Need-enum-known-c Inv-loop μ-loop
+enum-known-c c = search (walking, needs)
+
+enum-told : tie.Need-enum-told Inv-loop μ-loop
+enum-told c = search (walking, needs)
 
 returns : tie.Need-returns Inv-loop μ-loop
 returns c = search (walking, needs)
 
-add-sum : tie.Need-add-sum Inv-loop μ-loop
-add-sum c = search (walking, needs)
+returns-2 : tie.Need-returns-2 Inv-loop μ-loop
+returns-2 c = search (walking, needs)
+
+is-text-requires : tie.Need-is-text-requires Inv-loop μ-loop
+is-text-requires c κs = search (walking, needs)
 
 loop-less : tie.Need-loop-less Inv-loop μ-loop
 loop-less c = search (walking, needs)
@@ -35,11 +41,26 @@ loop-less c = search (walking, needs)
 loop-again : tie.Need-loop-again Inv-loop μ-loop
 loop-again c = search (walking, needs)
 
-enum-known-fault : tie.Need-enum-known-fault Inv-loop μ-loop
-enum-known-fault c = search (walking, needs)
+ch-width-requires : tie.Need-ch-width-requires Inv-loop μ-loop
+ch-width-requires c κs = search (walking, needs)
 
-returns-2 : tie.Need-returns-2 Inv-loop μ-loop
-returns-2 c = search (walking, needs)
+add-sum : tie.Need-add-sum Inv-loop μ-loop
+add-sum c = search (walking, needs)
+
+loop-less-2 : tie.Need-loop-less-2 Inv-loop μ-loop
+loop-less-2 c = search (walking, needs)
+
+loop-again-2 : tie.Need-loop-again-2 Inv-loop μ-loop
+loop-again-2 c = search (walking, needs)
+
+next-mode-requires : tie.Need-next-mode-requires Inv-loop μ-loop
+next-mode-requires c κs = search (walking, needs)
+
+loop-less-3 : tie.Need-loop-less-3 Inv-loop μ-loop
+loop-less-3 c = search (walking, needs)
+
+loop-again-3 : tie.Need-loop-again-3 Inv-loop μ-loop
+loop-again-3 c = search (walking, needs)
 
 returns-3 : tie.Need-returns-3 Inv-loop μ-loop
 returns-3 c = search (walking, needs)
@@ -51,12 +72,19 @@ columns-until-spec =
     Inv-loop
     μ-loop
     loop-holds
-    step-requires
-    enum-known-more
+    read-char-requires
+    enum-known-c
+    enum-told
     returns
-    add-sum
+    returns-2
+    is-text-requires
     loop-less
     loop-again
-    enum-known-fault
-    returns-2
+    ch-width-requires
+    add-sum
+    loop-less-2
+    loop-again-2
+    next-mode-requires
+    loop-less-3
+    loop-again-3
     returns-3)
