@@ -89,9 +89,9 @@ unfolding point-4
 sum-4 a b c d m = omega arith
 
 -- A code point's row, by its size.
-encode-1 : (c : ℕ) → c ≤ 0x7F → encode c ≡ c ∷ []
+pub encode-low : (c : ℕ) → c < 0x80 → encode c ≡ c ∷ []
 unfolding encode
-encode-1 c h = rw (le-leb c 0x7F h)
+encode-low c h = rw (le-leb c 0x7F (omega arith))
 
 encode-2 : (c : ℕ) → 0x7F < c → c ≤ 0x7FF → encode c ≡ (0xC0 + c / 64) ∷ (0x80 + c % 64) ∷ []
 unfolding encode
@@ -109,7 +109,7 @@ encode-4 c l = rw (lt-leb c 0x7F (omega arith), lt-leb c 0x7FF (omega arith), lt
 
 spelt-1 : (a : ℕ) → utf8-1 a ≡ true → (scalar a ≡ true) × (encode a ≡ a ∷ [])
 unfolding utf8-1
-spelt-1 a e = let h = leb-true a 0x7F e in (scalar-low a (omega arith), encode-1 a h)
+spelt-1 a e = let h = leb-true a 0x7F e in (scalar-low a (omega arith), encode-low a (omega arith))
 
 spelt-2 : (a b : ℕ) → utf8-2 a b ≡ true → (scalar (point-2 a b) ≡ true) × (encode (point-2 a b) ≡ a ∷ b ∷ [])
 unfolding utf8-2
@@ -203,7 +203,7 @@ found s c k e = go (headOf s) refl
     go Nothing f = cc
 
 back-1 : (c : ℕ) (ys : List ℕ) → c ≤ 0x7F → headOf (encode c ++ ys) ≡ Found c (length (encode c) - 1)
-back-1 c ys h = rw (encode-1 c h) (found (c ∷ ys) c 0 (read-1 (c ∷ ys) 0 c (omega arith) refl (omega arith)))
+back-1 c ys h = rw (encode-low c (omega arith)) (found (c ∷ ys) c 0 (read-1 (c ∷ ys) 0 c (omega arith) refl (omega arith)))
 
 back-2 : (c : ℕ) (ys : List ℕ) → 0x7F < c → c ≤ 0x7FF → headOf (encode c ++ ys) ≡ Found c (length (encode c) - 1)
 unfolding utf8-2

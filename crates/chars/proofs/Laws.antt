@@ -9,7 +9,7 @@ use native.Mathlib.Nat.{add-suc, suc-add, add-sub-cancel-left}
 use native.Mathlib.Omega.{arith}
 use lib.ListN.{length, getD, take, drop, take-append-drop, length-drop, length-append, drop-of-length-le, List·getD-append, List·getD-eq-default}
 use lib.Seq.{length-take-le, getD-at, drop-cons, drop-drop, drop-append-le, getD-drop}
-use borrow.Author.Tests.{lt-leb}
+use borrow.Author.Tests.{le-leb, lt-leb}
 use Rattle.units.specs.declared.Offset.{Offset}
 use Rattle.logic.specs.Choice.{pick}
 use Rattle.logic.proofs.Choice.{needs-true, clash}
@@ -26,6 +26,11 @@ head-end s i h = rw (drop-of-length-le s h)
 pub head-at : (s : List ℕ) (i : ℕ) → i < length s → headOf (drop i s) ≡ head4 (getD s i 0) (getD s (i + 1) 0) (getD s (i + 2) 0) (getD s (i + 3) 0)
 unfolding headOf
 head-at s i h = rw (drop-cons s i 0 h) (simp (getD-drop, suc-add, ← add-suc))
+
+-- A byte below 80 is a character by itself.
+pub head-low : (a : ℕ) (t : List ℕ) → a < 0x80 → headOf (a ∷ t) ≡ Found a 0
+unfolding headOf head4 utf8-1
+head-low a t h = rw (le-leb a 0x7F (omega arith))
 
 -- The ways in which four bytes start a text, with the tests that say so and the code point.
 pub data Seen (a b c d : ℕ) : Head → Type 0 where
@@ -271,6 +276,12 @@ split-within (suc n) s l = split-head s (headOf s) refl (λ k. split-within n (d
 pub split : (s : List ℕ) → Split s
 split s = split-within (length s) s (omega arith)
 
+pub fault-fits : (s : List ℕ) → firstFault s ≤ length s
+fault-fits s =
+    let c = split s in
+    let e = rw (c .joined) at (fault-only (c .front) (c .back) (c .whole) (c .none)) in
+    omega (arith, e, length-append (c .front) (c .back), ap length (c .joined))
+
 -- A byte below 80 is in no character of several bytes.
 not-2 : (a b : ℕ) → b < 0x80 → utf8-2 a b ≡ false
 unfolding utf8-2
@@ -297,7 +308,7 @@ unfolding utf8-4
 not-4d a b c d h = simp (lt-leb 0x80 d h, and-false)
 
 -- So a character that starts before such a byte ends before it.
-ends-before : (a : ℕ) (t ys : List ℕ) (x : ℕ) {c k : ℕ} → x < 0x80 → headOf (a ∷ t ++ x ∷ ys) ≡ Found c k → k < suc (length t)
+pub ends-before : (a : ℕ) (t ys : List ℕ) (x : ℕ) {c k : ℕ} → x < 0x80 → headOf (a ∷ t ++ x ∷ ys) ≡ Found c k → k < suc (length t)
 unfolding headOf
 ends-before a t ys x {c} {k} l e = go (seen a (L 0) (L 1) (L 2)) e
   where

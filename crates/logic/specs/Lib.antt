@@ -1,1 +1,3 @@
 pub mod Choice
+pub mod Count
+pub mod Items

@@ -1,4 +1,5 @@
 pub mod Cases
 pub mod Walk
+pub mod Upto
 pub mod Wording
 pub mod Laws
