@@ -44,10 +44,17 @@ pub or-true : {P : Type 0} (p q : Bool) → (p || q) ≡ true → (p ≡ true �
 or-true true q e f g = f refl
 or-true false q e f g = g e
 
+pub neither : (p q : Bool) → (p || q) ≡ false → (p ≡ false) × (q ≡ false)
+neither true q e = (cc, cc)
+neither false q e = (refl, e)
+
 pub within-says : (lo hi n : ℕ) → within lo hi n ≡ true → (lo ≤ n) × (n ≤ hi)
 within-says lo hi n e =
     let p = and-true (leb lo n) (leb n hi) e in
     (leb-true lo n (p .0), leb-true n hi (p .1))
+
+pub outside : (lo hi n : ℕ) → within lo hi n ≡ false → lo ≤ n → hi < n
+outside lo hi n e l = leb-false n hi (rw (le-leb lo n l) at e)
 
 -- What is false without p is p's where it is true.
 pub needs-true : (p : Bool) {q : Bool} → (p ≡ false → q ≡ false) → q ≡ true → p ≡ true

@@ -1,3 +1,6 @@
 pub mod Choice
 pub mod Count
 pub mod Items
+pub mod Block
+pub mod Flat
+pub mod Member

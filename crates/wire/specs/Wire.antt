@@ -1,0 +1,12 @@
+-- "wider numbers of a list go as bytes there, high first; bytes left over at the end are no number and are not touched"
+use Prim.Native.Nat.{ℕ, _/_, _%_}
+use mathlib.Core.List.{List, [], _∷_}
+use lib.ListN.{length}
+
+-- A number of 32 bits as four bytes.
+abbrev pub be32 : ℕ → List ℕ
+be32 v = (v / 16777216 % 256) ∷ (v / 65536 % 256) ∷ (v / 256 % 256) ∷ (v % 256) ∷ []
+
+-- The places of a list of 32-bit numbers.
+abbrev pub places32 : List ℕ → ℕ
+places32 l = length l / 4
