@@ -6,8 +6,12 @@
 // measure a text it is told none; to measure a word it is told the space. No rule about words, lines or
 // widths of lines stands here.
 ghost use mathlib.Core.Path.{_≡_};
-ghost use Rattle.measure.specs.Escapes.{columns, next, inText};
+ghost use Prim.Native.Nat.{_+_};
+ghost use lib.ListN.{drop};
+ghost use Rattle.logic.specs.Count.{count};
+ghost use Rattle.measure.specs.Escapes.{columns, next, inText, taken};
 ghost use Rattle.measure.specs.Measure.{passedOf, measureOf, answerOf};
+ghost use Rattle.measure.specs.Walk.{plain, runEnd};
 use chars::Read;
 use units::Answer;
 use units::Columns;
@@ -78,7 +82,7 @@ fn is_text(m: Mode) -> bool
 }
 
 // Where a text stands after one more character.
-fn next_mode(m: Mode, c: u32) -> Mode
+pub fn next_mode(m: Mode, c: u32) -> Mode
     ensures { λ r. ⌜ r ≡ next m c ⌝ }
 {
     match m {
@@ -118,8 +122,54 @@ fn next_mode(m: Mode, c: u32) -> Mode
     }
 }
 
+// The columns that a character takes where a text stands: none in a skip, and none for the ESC that
+// starts one.
+pub fn columns_taken(m: Mode, c: u32) -> usize
+    ensures { λ r. ⌜ r ≡ taken m c ⌝ }
+{
+    if !is_text(m) {
+        return 0;
+    }
+    if c == ESC {
+        return 0;
+    }
+    ch_width(c)
+}
+
+// A byte that is a character of one column by itself: below 80, no ESC, and not `stop`.
+fn is_plain(b: u8, stop: u32) -> bool
+    ensures { λ r. ⌜ r ≡ plain stop b ⌝ }
+{
+    let c = b as u32;
+    (c < 0x80) & (!(c == ESC) & !(c == stop))
+}
+
+// The end of the run of plain bytes that starts at `from`.
+fn plain_end(text: &[u8], from: usize, stop: u32) -> usize
+    ensures { λ r. ⌜ r ≡ from + count (plain stop) (drop from (now (text .entry))) ⌝ }
+{
+    let mut at = from;
+    while at < text.len() {
+        if !is_plain(text[at], stop) {
+            return at;
+        }
+        at += 1;
+    }
+    at
+}
+
+// The same in plain text; in an escape no byte is plain.
+fn run_end(text: &[u8], from: usize, mode: Mode, stop: u32) -> usize
+    ensures { λ r. ⌜ r ≡ runEnd mode stop (now (text .entry)) from ⌝ }
+{
+    if is_text(mode) {
+        return plain_end(text, from, stop);
+    }
+    from
+}
+
 // The columns of the characters from a place up to the first that is `stop`, or else to the end of the
-// text, and the place of that; or the fault that is met before.
+// text, and the place of that; or the fault that is met before. A run of plain bytes is passed at once.
 pub fn columns_until(text: &[u8], from: Offset, stop: u32) -> Passed
     ensures { λ r. ⌜ r ≡ passedOf stop (now (text .entry)) (from .0) ⌝ }
 {
@@ -127,22 +177,30 @@ pub fn columns_until(text: &[u8], from: Offset, stop: u32) -> Passed
     let mut cols = Columns(0);
     let mut mode = Mode::Text;
     while at.0 < text.len() {
-        let Read::Char(c, after) = chars::read_char(text, at) else {
-            return Passed::Fault(at);
-        };
-        if c == stop {
-            return Passed::To(cols, at);
-        }
-        at = after;
-        if is_text(mode) {
-            if c == ESC {
-                mode = Mode::Esc;
-            } else {
-                let sum = cols.0 + ch_width(c);
-                cols = Columns(sum);
-            }
+        let end = run_end(text, at.0, mode, stop);
+        if at.0 < end {
+            let run = end - at.0;
+            let sum = cols.0 + run;
+            cols = Columns(sum);
+            at = Offset(end);
         } else {
-            mode = next_mode(mode, c);
+            let Read::Char(c, after) = chars::read_char(text, at) else {
+                return Passed::Fault(at);
+            };
+            if c == stop {
+                return Passed::To(cols, at);
+            }
+            at = after;
+            if is_text(mode) {
+                if c == ESC {
+                    mode = Mode::Esc;
+                } else {
+                    let wider = cols.0 + ch_width(c);
+                    cols = Columns(wider);
+                }
+            } else {
+                mode = next_mode(mode, c);
+            }
         }
     }
     Passed::To(cols, at)

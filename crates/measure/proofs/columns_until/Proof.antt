@@ -17,6 +17,21 @@ abbrev μ-loop : tie.MeasureT-loop
 loop-holds : tie.Need-loop-holds Inv-loop μ-loop
 loop-holds c = search (walking, needs)
 
+run-end-requires : tie.Need-run-end-requires Inv-loop μ-loop
+run-end-requires c κs = search (walking, needs)
+
+sub-run : tie.Need-sub-run Inv-loop μ-loop
+sub-run c = search (walking, needs)
+
+add-sum : tie.Need-add-sum Inv-loop μ-loop
+add-sum c = search (walking, needs)
+
+loop-less : tie.Need-loop-less Inv-loop μ-loop
+loop-less c = search (walking, needs)
+
+loop-again : tie.Need-loop-again Inv-loop μ-loop
+loop-again c = search (walking, needs)
+
 read-char-requires : tie.Need-read-char-requires Inv-loop μ-loop
 read-char-requires c κs = search (walking, needs)
 
@@ -35,32 +50,32 @@ returns-2 c = search (walking, needs)
 is-text-requires : tie.Need-is-text-requires Inv-loop μ-loop
 is-text-requires c κs = search (walking, needs)
 
-loop-less : tie.Need-loop-less Inv-loop μ-loop
-loop-less c = search (walking, needs)
-
-loop-again : tie.Need-loop-again Inv-loop μ-loop
-loop-again c = search (walking, needs)
-
-ch-width-requires : tie.Need-ch-width-requires Inv-loop μ-loop
-ch-width-requires c κs = search (walking, needs)
-
-add-sum : tie.Need-add-sum Inv-loop μ-loop
-add-sum c = search (walking, needs)
-
 loop-less-2 : tie.Need-loop-less-2 Inv-loop μ-loop
 loop-less-2 c = search (walking, needs)
 
 loop-again-2 : tie.Need-loop-again-2 Inv-loop μ-loop
 loop-again-2 c = search (walking, needs)
 
-next-mode-requires : tie.Need-next-mode-requires Inv-loop μ-loop
-next-mode-requires c κs = search (walking, needs)
+ch-width-requires : tie.Need-ch-width-requires Inv-loop μ-loop
+ch-width-requires c κs = search (walking, needs)
+
+add-wider : tie.Need-add-wider Inv-loop μ-loop
+add-wider c = search (walking, needs)
 
 loop-less-3 : tie.Need-loop-less-3 Inv-loop μ-loop
 loop-less-3 c = search (walking, needs)
 
 loop-again-3 : tie.Need-loop-again-3 Inv-loop μ-loop
 loop-again-3 c = search (walking, needs)
+
+next-mode-requires : tie.Need-next-mode-requires Inv-loop μ-loop
+next-mode-requires c κs = search (walking, needs)
+
+loop-less-4 : tie.Need-loop-less-4 Inv-loop μ-loop
+loop-less-4 c = search (walking, needs)
+
+loop-again-4 : tie.Need-loop-again-4 Inv-loop μ-loop
+loop-again-4 c = search (walking, needs)
 
 returns-3 : tie.Need-returns-3 Inv-loop μ-loop
 returns-3 c = search (walking, needs)
@@ -72,19 +87,24 @@ columns-until-spec =
     Inv-loop
     μ-loop
     loop-holds
+    run-end-requires
+    sub-run
+    add-sum
+    loop-less
+    loop-again
     read-char-requires
     enum-known-c
     enum-told
     returns
     returns-2
     is-text-requires
-    loop-less
-    loop-again
-    ch-width-requires
-    add-sum
     loop-less-2
     loop-again-2
-    next-mode-requires
+    ch-width-requires
+    add-wider
     loop-less-3
     loop-again-3
+    next-mode-requires
+    loop-less-4
+    loop-again-4
     returns-3)
