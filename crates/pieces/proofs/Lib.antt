@@ -1,0 +1,10 @@
+pub mod Cases
+pub mod Cutting
+pub mod Parting
+pub mod Fitting
+pub mod Trimming
+pub mod Stepping
+pub mod Same
+pub mod Listing
+pub mod Laws
+pub mod Examples
