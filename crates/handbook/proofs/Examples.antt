@@ -1,10 +1,14 @@
 -- THE TABLE OF EXAMPLES: the definitions give what document 01 says, row by row. They compute, so the proof is to compute them.
 use mathlib.Core.Path.{_≡_, refl}
+use Rattle.logic.specs.Count.{count}
+use Rattle.logic.specs.Items.{items, itemsFor}
 use Rattle.chars.specs.Utf8.{utf8-1, utf8-2, utf8-3, utf8-4, point-2, point-3, point-4, head4, headOf, decodeFrom, bytes, firstFault}
 use Rattle.measure.specs.Escapes.{columns, next, inText, taken, widthFrom, widthOf}
 use Rattle.measure.specs.Measure.{measureOf, answerOf}
+use Rattle.words.specs.Words.{contentEnd, white, afterWord, wordAt, words}
+use Rattle.pieces.specs.Pieces.{starts, fitting, pieceEnd, pieceAt, pieces, trimmed, wordFrom, breakApart}
 use Rattle.handbook.specs.Examples.{given, wanted}
 
 pub examples : given ≡ wanted
-unfolding utf8-1 utf8-2 utf8-3 utf8-4 point-2 point-3 point-4 head4 headOf decodeFrom bytes firstFault columns next inText taken widthFrom widthOf measureOf answerOf
+unfolding count items itemsFor utf8-1 utf8-2 utf8-3 utf8-4 point-2 point-3 point-4 head4 headOf decodeFrom bytes firstFault columns next inText taken widthFrom widthOf measureOf answerOf contentEnd white afterWord wordAt words starts fitting pieceEnd pieceAt pieces trimmed wordFrom breakApart
 examples = refl

@@ -1,8 +1,12 @@
 -- The starred examples of document 01, as one table: what the definitions give, a row each, beside what the document says.
 use Prim.Native.Nat.{ℕ}
-use mathlib.Core.List.{List, [], _∷_}
+use mathlib.Core.List.{List, [], _∷_, map}
 use Rattle.units.specs.declared.Answer.{Answer}
 use Rattle.measure.specs.Measure.{measureOf, answerOf}
+use Rattle.words.specs.declared.Word.{Word}
+use Rattle.words.specs.Words.{words}
+use Rattle.words.specs.Lists.{startOf, endOf, whiteOf, widthOfWord}
+use Rattle.pieces.specs.Pieces.{breakApart}
 
 -- An answer as number, place and count.
 abbrev pub numbers : Answer → List ℕ
@@ -11,7 +15,23 @@ numbers a = a .number ∷ a .place ∷ a .count ∷ []
 abbrev pub measured : List ℕ → List ℕ
 measured text = numbers (answerOf (measureOf text))
 
+-- The widths of a text's words, in order.
+abbrev pub wordWidths : List ℕ → List ℕ
+wordWidths text = map widthOfWord (words text)
+
+-- The pieces of a text that is one word, at a width: start, content end, whitespace length and width of each, one after the other.
+abbrev pub flatWords : List Word → List ℕ
+flatWords [] = []
+flatWords (p ∷ ps) = startOf p ∷ endOf p ∷ whiteOf p ∷ widthOfWord p ∷ flatWords ps
+
+abbrev pub broken : List ℕ → ℕ → List ℕ
+broken text w = flatWords (breakApart text w)
+
 -- ---- the texts, as bytes
+
+-- `Hello!  `
+abbrev pub hello : List ℕ
+hello = 0x48 ∷ 0x65 ∷ 0x6C ∷ 0x6C ∷ 0x6F ∷ 0x21 ∷ 0x20 ∷ 0x20 ∷ []
 
 -- `Café Plain`
 abbrev pub cafePlain : List ℕ
@@ -42,9 +62,11 @@ given =
     ∷ measured niHao
     ∷ measured cafeAccent
     ∷ measured openString
+    ∷ wordWidths openString
+    ∷ broken hello 3
     ∷ []
 
--- 0 is success, with place 0; the count is the columns
+-- measuring: 0 is success, with place 0; the count is the columns. `ab ` ESC `]cd ef` measures 3, but its words 2, 0, 2. `Hello!  ` broken at 3: `Hel`, `lo!` with two spaces
 abbrev pub wanted : List (List ℕ)
 wanted =
     (0 ∷ 0 ∷ 10 ∷ [])
@@ -52,4 +74,6 @@ wanted =
     ∷ (0 ∷ 0 ∷ 4 ∷ [])
     ∷ (0 ∷ 0 ∷ 11 ∷ [])
     ∷ (0 ∷ 0 ∷ 3 ∷ [])
+    ∷ (2 ∷ 0 ∷ 2 ∷ [])
+    ∷ (0 ∷ 3 ∷ 0 ∷ 3 ∷ 3 ∷ 6 ∷ 2 ∷ 3 ∷ [])
     ∷ []

@@ -1,0 +1,56 @@
+-- LISTS: success and each refusal of the word finder and of breaking, exactly when document 01 says, in its order: 1, 2, 3, 7. `room` is the places of the shortest list.
+use mathlib.Core.Path.{_≡_}
+use mathlib.Core.List.{List}
+use Prim.Native.Nat.{ℕ, _≤_, _<_}
+use native.Mathlib.Omega.{arith}
+use lib.ListN.{length}
+use borrow.Author.Tests.{lt-ltb, le-ltb}
+use Rattle.units.specs.Limits.{textMost, widthMost}
+use Rattle.units.specs.Answers.{success, refusal}
+use Rattle.logic.specs.Choice.{pick}
+use Rattle.chars.specs.Utf8.{firstFault, Whole}
+use Rattle.words.specs.declared.Word.{Word}
+use Rattle.words.specs.Words.{words}
+use Rattle.words.specs.Lists as found
+use Rattle.pieces.specs.Lists as broken
+
+-- ---- the word finder
+
+pub words-too-long : (s : List ℕ) (room : ℕ) → textMost < length s → found.answerOf (found.listedOf s room) ≡ refusal 1 (length s)
+unfolding found.listedOf found.answerOf
+words-too-long s room l = rw (lt-ltb textMost (length s) l)
+
+pub words-not-utf8 : (s : List ℕ) (room : ℕ) → length s ≤ textMost → firstFault s < length s → found.answerOf (found.listedOf s room) ≡ refusal 2 (firstFault s)
+unfolding found.listedOf found.answerOf
+words-not-utf8 s room l h = rw (le-ltb textMost (length s) l, lt-ltb (firstFault s) (length s) h)
+
+pub words-no-room : (s : List ℕ) (room : ℕ) → length s ≤ textMost → Whole s → room < length (words s) → found.answerOf (found.listedOf s room) ≡ refusal 7 (length (words s))
+unfolding found.listedOf found.answerOf
+words-no-room s room l w h = rw (le-ltb textMost (length s) l, le-ltb (firstFault s) (length s) (omega arith), lt-ltb room (length (words s)) h)
+
+pub words-listed : (s : List ℕ) (room : ℕ) → length s ≤ textMost → Whole s → length (words s) ≤ room → found.answerOf (found.listedOf s room) ≡ success (length (words s))
+unfolding found.listedOf found.answerOf
+words-listed s room l w h = rw (le-ltb textMost (length s) l, le-ltb (firstFault s) (length s) (omega arith), le-ltb room (length (words s)) h)
+
+-- ---- breaking: `ps` are the pieces, of one word or of all words
+
+module _ (s : List ℕ) (w room : ℕ) (ps : List Word) where
+  pub pieces-too-long : textMost < length s → broken.answerOf (broken.brokenOf s w room ps) ≡ refusal 1 (length s)
+  unfolding broken.brokenOf broken.answerOf
+  pieces-too-long l = rw (lt-ltb textMost (length s) l)
+
+  pub pieces-not-utf8 : length s ≤ textMost → firstFault s < length s → broken.answerOf (broken.brokenOf s w room ps) ≡ refusal 2 (firstFault s)
+  unfolding broken.brokenOf broken.answerOf
+  pieces-not-utf8 l h = rw (le-ltb textMost (length s) l, lt-ltb (firstFault s) (length s) h)
+
+  pub pieces-too-wide : length s ≤ textMost → Whole s → widthMost < w → broken.answerOf (broken.brokenOf s w room ps) ≡ refusal 3 0
+  unfolding broken.brokenOf broken.answerOf
+  pieces-too-wide l u h = rw (le-ltb textMost (length s) l, le-ltb (firstFault s) (length s) (omega arith), lt-ltb widthMost w h)
+
+  pub pieces-no-room : length s ≤ textMost → Whole s → w ≤ widthMost → room < length ps → broken.answerOf (broken.brokenOf s w room ps) ≡ refusal 7 (length ps)
+  unfolding broken.brokenOf broken.answerOf
+  pieces-no-room l u x h = rw (le-ltb textMost (length s) l, le-ltb (firstFault s) (length s) (omega arith), le-ltb widthMost w x, lt-ltb room (length ps) h)
+
+  pub pieces-listed : length s ≤ textMost → Whole s → w ≤ widthMost → length ps ≤ room → broken.answerOf (broken.brokenOf s w room ps) ≡ success (length ps)
+  unfolding broken.brokenOf broken.answerOf
+  pieces-listed l u x h = rw (le-ltb textMost (length s) l, le-ltb (firstFault s) (length s) (omega arith), le-ltb widthMost w x, le-ltb room (length ps) h)
