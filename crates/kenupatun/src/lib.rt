@@ -1,14 +1,73 @@
 // The functions that C calls, as `include/kenupatun.h` declares them, and nothing else: each turns what
 // an entry of the crates below answers into the numbers of document 01. A slice is a pointer and a
-// length.
+// length; a list of wider numbers is bytes, high first.
 ghost use mathlib.Core.Path.{_≡_};
-ghost use Rattle.measure.specs.Measure.{measureOf, answerOf};
+ghost use Rattle.words.specs.Words.{words};
+ghost use Rattle.words.specs.Lists.{startOf, endOf, whiteOf, widthOfWord};
+ghost use Rattle.pieces.specs.Pieces.{breakApart, breakWords};
+ghost use Rattle.kenupatun.specs.Exports.{measured, found, foundAnswer, brokenWord, brokenWords, brokenAnswer, wordsLeft, piecesLeft};
 use units::Answer;
 
 // The columns of a text, as the count; or refusal 1 or 2.
 #[no_mangle]
 pub extern "C" fn kenupatun_measure(text: &[u8]) -> Answer
-    ensures { λ r. ⌜ r ≡ answerOf (measureOf (now (text .entry))) ⌝ }
+    ensures { λ r. ⌜ r ≡ measured (now (text .entry)) ⌝ }
 {
     measure::answer_of(measure::display_width(text))
+}
+
+// The words of a text in four lists of 32-bit numbers, and how many there are; or refusal 1, 2 or 7.
+#[no_mangle]
+pub extern "C" fn kenupatun_words(
+    text: &[u8],
+    starts: &mut [u8],
+    ends: &mut [u8],
+    whites: &mut [u8],
+    widths: &mut [u8],
+) -> Answer
+    ensures { λ r. ⌜ r ≡ foundAnswer (found (now (text .entry)) (now (starts .entry)) (now (ends .entry)) (now (whites .entry)) (now (widths .entry))) ⌝ }
+    ensures { λ _. ⌜ now (starts .exit) ≡ wordsLeft (found (now (text .entry)) (now (starts .entry)) (now (ends .entry)) (now (whites .entry)) (now (widths .entry))) startOf (words (now (text .entry))) (now (starts .entry)) ⌝ }
+    ensures { λ _. ⌜ now (ends .exit) ≡ wordsLeft (found (now (text .entry)) (now (starts .entry)) (now (ends .entry)) (now (whites .entry)) (now (widths .entry))) endOf (words (now (text .entry))) (now (ends .entry)) ⌝ }
+    ensures { λ _. ⌜ now (whites .exit) ≡ wordsLeft (found (now (text .entry)) (now (starts .entry)) (now (ends .entry)) (now (whites .entry)) (now (widths .entry))) whiteOf (words (now (text .entry))) (now (whites .entry)) ⌝ }
+    ensures { λ _. ⌜ now (widths .exit) ≡ wordsLeft (found (now (text .entry)) (now (starts .entry)) (now (ends .entry)) (now (whites .entry)) (now (widths .entry))) widthOfWord (words (now (text .entry))) (now (widths .entry)) ⌝ }
+{
+    words::answer_of(word_bytes::find_words(text, starts, ends, whites, widths))
+}
+
+// The pieces of a text that is one word, in four lists; or refusal 1, 2, 3 or 7.
+#[no_mangle]
+pub extern "C" fn kenupatun_break_word(
+    text: &[u8],
+    width: u32,
+    starts: &mut [u8],
+    ends: &mut [u8],
+    whites: &mut [u8],
+    widths: &mut [u8],
+) -> Answer
+    ensures { λ r. ⌜ r ≡ brokenAnswer (brokenWord (now (text .entry)) width (now (starts .entry)) (now (ends .entry)) (now (whites .entry)) (now (widths .entry))) ⌝ }
+    ensures { λ _. ⌜ now (starts .exit) ≡ piecesLeft (brokenWord (now (text .entry)) width (now (starts .entry)) (now (ends .entry)) (now (whites .entry)) (now (widths .entry))) startOf (breakApart (now (text .entry)) width) (now (starts .entry)) ⌝ }
+    ensures { λ _. ⌜ now (ends .exit) ≡ piecesLeft (brokenWord (now (text .entry)) width (now (starts .entry)) (now (ends .entry)) (now (whites .entry)) (now (widths .entry))) endOf (breakApart (now (text .entry)) width) (now (ends .entry)) ⌝ }
+    ensures { λ _. ⌜ now (whites .exit) ≡ piecesLeft (brokenWord (now (text .entry)) width (now (starts .entry)) (now (ends .entry)) (now (whites .entry)) (now (widths .entry))) whiteOf (breakApart (now (text .entry)) width) (now (whites .entry)) ⌝ }
+    ensures { λ _. ⌜ now (widths .exit) ≡ piecesLeft (brokenWord (now (text .entry)) width (now (starts .entry)) (now (ends .entry)) (now (whites .entry)) (now (widths .entry))) widthOfWord (breakApart (now (text .entry)) width) (now (widths .entry)) ⌝ }
+{
+    pieces::answer_of(piece_bytes::break_apart(text, width, starts, ends, whites, widths))
+}
+
+// The words of a text, those that are wider broken, in four lists; or refusal 1, 2, 3 or 7.
+#[no_mangle]
+pub extern "C" fn kenupatun_break_words(
+    text: &[u8],
+    width: u32,
+    starts: &mut [u8],
+    ends: &mut [u8],
+    whites: &mut [u8],
+    widths: &mut [u8],
+) -> Answer
+    ensures { λ r. ⌜ r ≡ brokenAnswer (brokenWords (now (text .entry)) width (now (starts .entry)) (now (ends .entry)) (now (whites .entry)) (now (widths .entry))) ⌝ }
+    ensures { λ _. ⌜ now (starts .exit) ≡ piecesLeft (brokenWords (now (text .entry)) width (now (starts .entry)) (now (ends .entry)) (now (whites .entry)) (now (widths .entry))) startOf (breakWords (now (text .entry)) width) (now (starts .entry)) ⌝ }
+    ensures { λ _. ⌜ now (ends .exit) ≡ piecesLeft (brokenWords (now (text .entry)) width (now (starts .entry)) (now (ends .entry)) (now (whites .entry)) (now (widths .entry))) endOf (breakWords (now (text .entry)) width) (now (ends .entry)) ⌝ }
+    ensures { λ _. ⌜ now (whites .exit) ≡ piecesLeft (brokenWords (now (text .entry)) width (now (starts .entry)) (now (ends .entry)) (now (whites .entry)) (now (widths .entry))) whiteOf (breakWords (now (text .entry)) width) (now (whites .entry)) ⌝ }
+    ensures { λ _. ⌜ now (widths .exit) ≡ piecesLeft (brokenWords (now (text .entry)) width (now (starts .entry)) (now (ends .entry)) (now (whites .entry)) (now (widths .entry))) widthOfWord (breakWords (now (text .entry)) width) (now (widths .entry)) ⌝ }
+{
+    pieces::answer_of(piece_bytes::break_words(text, width, starts, ends, whites, widths))
 }

@@ -1,0 +1,46 @@
+-- What the functions for C answer and leave in lists of bytes, by the definitions of the entries that they call.
+use Prim.Native.Nat.{ℕ, min}
+use mathlib.Core.List.{List, map}
+use lib.ListN.{length}
+use Rattle.units.specs.declared.Answer.{Answer}
+use Rattle.logic.specs.Flat.{flat}
+use Rattle.wire.specs.Wire.{be32, places32}
+use Rattle.measure.specs.Measure as measure
+use Rattle.words.specs.declared.Word.{Word}
+use Rattle.words.specs.declared.Listed.{Listed}
+use Rattle.words.specs.Words.{words}
+use Rattle.words.specs.Lists as lists
+use Rattle.pieces.specs.declared.Broken.{Broken}
+use Rattle.pieces.specs.Pieces.{breakApart, breakWords}
+use Rattle.pieces.specs.Lists as pieces
+
+abbrev pub measured : List ℕ → Answer
+measured text = measure.answerOf (measure.measureOf text)
+
+-- The places of the shortest of four lists of 32-bit numbers.
+abbrev pub room : List ℕ → List ℕ → List ℕ → List ℕ → ℕ
+room a b c d = min (min (places32 a) (places32 b)) (min (places32 c) (places32 d))
+
+-- What the finder answers, and what breaking a word and breaking a text's words do, with lists of bytes.
+abbrev pub found : List ℕ → List ℕ → List ℕ → List ℕ → List ℕ → Listed
+found text a b c d = lists.listedOf text (room a b c d)
+
+abbrev pub brokenWord : List ℕ → ℕ → List ℕ → List ℕ → List ℕ → List ℕ → Broken
+brokenWord text w a b c d = pieces.brokenOf text w (room a b c d) (breakApart text w)
+
+abbrev pub brokenWords : List ℕ → ℕ → List ℕ → List ℕ → List ℕ → List ℕ → Broken
+brokenWords text w a b c d = pieces.brokenOf text w (room a b c d) (breakWords text w)
+
+-- Their numbers.
+abbrev pub foundAnswer : Listed → Answer
+foundAnswer answer = lists.answerOf answer
+
+abbrev pub brokenAnswer : Broken → Answer
+brokenAnswer answer = pieces.answerOf answer
+
+-- A list of bytes after an answer: the numbers f of the words or pieces from its start on, and what it held after them; or, refused, all that it held.
+abbrev pub wordsLeft : Listed → (Word → ℕ) → List Word → List ℕ → List ℕ
+wordsLeft answer f ws l = lists.Finds answer (flat be32 (map f ws)) l
+
+abbrev pub piecesLeft : Broken → (Word → ℕ) → List Word → List ℕ → List ℕ
+piecesLeft answer f ps l = pieces.Lists answer (flat be32 (map f ps)) l
