@@ -8,6 +8,11 @@
  * A text is a pointer, which is never NULL, and a number of bytes. No final 0 is
  * needed, and a 0 inside is a character like any other. The bytes must not change
  * during the call.
+ *
+ * A list of numbers is a pointer, which is never NULL, and a length in bytes. A number
+ * of 32 bits takes four bytes, the high one first; four bytes are a place of the list.
+ * Bytes left over at the end, which make no place, are never touched. Lists that are
+ * written must not overlap each other or the text.
  */
 #ifndef KENUPATUN_H
 #define KENUPATUN_H
@@ -22,12 +27,18 @@ extern "C" {
 /* A text has at most this many bytes. */
 #define KENUPATUN_TEXT_MOST 60000
 
+/* A line width is at most this. */
+#define KENUPATUN_WIDTH_MOST 255
+
 /*
  * What every function answers.
  *
  *   number  0: done. Any other: refused, and the number says why.
  *   place   0 when done. When refused, where the fault is (see the numbers below).
  *   count   what was asked for, such as the columns of a text. 0 when refused.
+ *
+ * A refusal changes nothing that the function was lent. Where several hold, the one
+ * named first with the function is given.
  */
 typedef struct {
     uint32_t number;
@@ -44,6 +55,12 @@ typedef struct {
  */
 #define KENUPATUN_NOT_UTF8 2
 
+/* A line width exceeds 255; the place is its index, 0 where there is but one. */
+#define KENUPATUN_WIDTH_TOO_LARGE 3
+
+/* A list is too short; the place is the places that every list needs. */
+#define KENUPATUN_LIST_TOO_SHORT 7
+
 /*
  * The columns that a text takes on a terminal: 1 for a character below U+1100,
  * 2 for any other, 0 for an escape (from ESC to its end). The count is the columns.
@@ -51,6 +68,64 @@ typedef struct {
  * Refusals: 1, then 2. An empty text has 0 columns.
  */
 kenupatun_answer kenupatun_measure(const uint8_t *text, size_t text_len);
+
+/*
+ * The words of a text. A word is its content and the spaces after it: it ends where a
+ * space is followed by a character that is none. Only 20 is a space, and it is one also
+ * inside an escape; a newline is a character like any other. Spaces at the start of the
+ * text are a word with empty content.
+ *
+ * The count is the words. The i-th word has the i-th place of each of four lists:
+ *
+ *   starts  the offset of its first byte, 0 being the text's first
+ *   ends    the offset after the last byte of its content, where its spaces start
+ *   whites  how many spaces follow its content
+ *   widths  the columns of its content, measured by itself
+ *
+ * So the words, one after the other, are the text. The places past the last word keep
+ * what they held.
+ *
+ * Refusals: 1, then 2, then 7 where the shortest of the four lists has fewer places than
+ * there are words. A text of n bytes has at most n / 2 + 1 words.
+ */
+kenupatun_answer kenupatun_words(const uint8_t *text, size_t text_len,
+                                 uint8_t *starts, size_t starts_len, uint8_t *ends, size_t ends_len,
+                                 uint8_t *whites, size_t whites_len, uint8_t *widths, size_t widths_len);
+
+/*
+ * One word, broken into pieces of at most `width` columns. The whole text is the word:
+ * the spaces at its end are its whitespace, all before them, also other spaces, its
+ * content.
+ *
+ * A character that would make the current piece wider than `width` starts a new piece,
+ * unless the current one has no columns yet: a piece may hold one character that is too
+ * wide by itself. An escape stays whole, with the piece in which it was met. The pieces,
+ * one after the other, are the content. The last one has the whitespace.
+ *
+ * The count is the pieces. The lists are those of kenupatun_words, a place a piece.
+ * A word with empty content has no pieces, and so its whitespace is in none.
+ *
+ * Refusals: 1, 2, 3, then 7 where the shortest of the four lists has fewer places than
+ * there are pieces. A text of n bytes has at most n pieces.
+ */
+kenupatun_answer kenupatun_break_word(const uint8_t *text, size_t text_len, uint32_t width,
+                                      uint8_t *starts, size_t starts_len, uint8_t *ends, size_t ends_len,
+                                      uint8_t *whites, size_t whites_len, uint8_t *widths, size_t widths_len);
+
+/*
+ * The words of a text as kenupatun_words finds them, those wider than `width` broken
+ * into pieces as kenupatun_break_word does it, all others as they are, also a word with
+ * empty content. So nothing is lost: words and pieces, one after the other, are the text.
+ *
+ * The count is the words and pieces. The lists are those of kenupatun_words, a place for
+ * each of them.
+ *
+ * Refusals: 1, 2, 3, then 7 where the shortest of the four lists has fewer places than
+ * there are words and pieces. A text of n bytes has at most n of them.
+ */
+kenupatun_answer kenupatun_break_words(const uint8_t *text, size_t text_len, uint32_t width,
+                                       uint8_t *starts, size_t starts_len, uint8_t *ends, size_t ends_len,
+                                       uint8_t *whites, size_t whites_len, uint8_t *widths, size_t widths_len);
 
 #ifdef __cplusplus
 }

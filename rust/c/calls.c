@@ -43,9 +43,103 @@ static void measures(void)
     expect("60,001 bytes", measure(text, KENUPATUN_TEXT_MOST + 1), KENUPATUN_TEXT_TOO_LONG, 60001, 0);
 }
 
+/* Four lists of three places, a byte left over in each. */
+static uint8_t starts[13], ends[13], whites[13], widths[13];
+#define LISTS starts, sizeof starts, ends, sizeof ends, whites, sizeof whites, widths, sizeof widths
+
+/* Fills the lists with what no answer has. */
+static void clear_lists(void)
+{
+    memset(starts, 0xee, sizeof starts);
+    memset(ends, 0xee, sizeof ends);
+    memset(whites, 0xee, sizeof whites);
+    memset(widths, 0xee, sizeof widths);
+}
+
+/* The number in a place of a list. */
+static uint32_t number_at(const uint8_t *list, size_t place)
+{
+    const uint8_t *b = list + 4 * place;
+    return (uint32_t)b[0] << 24 | (uint32_t)b[1] << 16 | (uint32_t)b[2] << 8 | b[3];
+}
+
+/* Holds one place of the four lists to its numbers. */
+static void expect_word(const char *what, size_t place, uint32_t start, uint32_t end, uint32_t white, uint32_t width)
+{
+    if (number_at(starts, place) == start && number_at(ends, place) == end && number_at(whites, place) == white &&
+        number_at(widths, place) == width)
+        return;
+    failures++;
+    fprintf(stderr, "%s: place %lu of the lists has %lu %lu %lu %lu\n", what, (unsigned long)place,
+            (unsigned long)number_at(starts, place), (unsigned long)number_at(ends, place),
+            (unsigned long)number_at(whites, place), (unsigned long)number_at(widths, place));
+}
+
+/* Holds what an answer leaves alone: the places from one on, and the byte left over. */
+static void expect_rest(const char *what, size_t place)
+{
+    size_t at;
+
+    for (at = 4 * place; at < sizeof starts; at++) {
+        if (starts[at] == 0xee && ends[at] == 0xee && whites[at] == 0xee && widths[at] == 0xee)
+            continue;
+        failures++;
+        fprintf(stderr, "%s: byte %lu of a list has changed\n", what, (unsigned long)at);
+    }
+}
+
+static void words(void)
+{
+    const uint8_t *text = (const uint8_t *)"ab \x1b]cd ef";
+    const char *what = "words around an escape";
+
+    clear_lists();
+    expect(what, kenupatun_words(text, 10, LISTS), 0, 0, 3);
+    expect_word(what, 0, 0, 2, 1, 2);
+    expect_word(what, 1, 3, 7, 1, 0);
+    expect_word(what, 2, 8, 10, 0, 2);
+    expect_rest(what, 3);
+
+    clear_lists();
+    what = "a list that is too short";
+    expect(what, kenupatun_words(text, 10, starts, 13, ends, 13, whites, 11, widths, 13),
+           KENUPATUN_LIST_TOO_SHORT, 3, 0);
+    expect_rest(what, 0);
+}
+
+static void breaks(void)
+{
+    const uint8_t *hello = (const uint8_t *)"Hello!  ", *wide = (const uint8_t *)" \xe4\xbd\xa0\xe5\xa5\xbd";
+    const char *what = "a word in two pieces";
+
+    clear_lists();
+    expect(what, kenupatun_break_word(hello, 8, 3, LISTS), 0, 0, 2);
+    expect_word(what, 0, 0, 3, 0, 3);
+    expect_word(what, 1, 3, 6, 2, 3);
+    expect_rest(what, 2);
+
+    clear_lists();
+    what = "leading spaces, and a word in two pieces";
+    expect(what, kenupatun_break_words(wide, 7, 1, LISTS), 0, 0, 3);
+    expect_word(what, 0, 0, 0, 1, 0);
+    expect_word(what, 1, 1, 4, 0, 2);
+    expect_word(what, 2, 4, 7, 0, 2);
+    expect_rest(what, 3);
+
+    clear_lists();
+    what = "a width that is too large";
+    expect(what, kenupatun_break_word(hello, 8, KENUPATUN_WIDTH_MOST, LISTS), 0, 0, 1);
+    clear_lists();
+    expect(what, kenupatun_break_word(hello, 8, KENUPATUN_WIDTH_MOST + 1, LISTS), KENUPATUN_WIDTH_TOO_LARGE, 0, 0);
+    expect(what, kenupatun_break_words(hello, 8, UINT32_MAX, LISTS), KENUPATUN_WIDTH_TOO_LARGE, 0, 0);
+    expect_rest(what, 0);
+}
+
 int main(void)
 {
     measures();
+    words();
+    breaks();
     if (failures == 0)
         puts("the header and the archive agree");
     return failures == 0 ? 0 : 1;

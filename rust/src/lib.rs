@@ -4,43 +4,56 @@
 //! a definition, on every input. This crate calls it through its C interface
 //! (`include/kenupatun.h`) and adds nothing to what it answers.
 //!
-//! Each function comes in two forms. The plain one ([`measure`]) gives the [`Answer`] as
-//! it comes back: a number, a place and a count. The other ([`display_width`]) bears the
-//! name that the crate `textwrap` gives it and answers a [`Result`].
+//! Each function comes in two forms. The plain one gives the [`Answer`] as it comes back: a
+//! number, a place and a count. The other bears the name that the crate `textwrap` gives it and
+//! answers a [`Result`].
 //!
-//! A text is a slice of bytes, because Kenupatun tests by itself that it is UTF-8.
+//! | plain | as in `textwrap` | what it does |
+//! |---|---|---|
+//! | [`measure`] | [`display_width`] | the columns of a text |
+//! | [`words_into`] | [`find_words`] | the words of a text |
+//! | [`break_word_into`] | [`break_apart`] | one word, broken into pieces |
+//! | [`break_words_into`] | [`break_words`] | the words of a text, the wide ones broken |
+//!
+//! A text is a slice of bytes, because Kenupatun tests by itself that it is UTF-8. A plain form
+//! whose name ends in `_into` writes into lists that it is lent, bytes as they come back too.
 //!
 //! ```
-//! use kenupatun::{display_width, measure, Answer, Refusal};
+//! use kenupatun::{break_words, display_width, measure, Answer, Refusal};
 //!
 //! assert_eq!(display_width("Café Plain".as_bytes()), Ok(10));
 //! assert_eq!(display_width("\u{1b}[31mCafé Rouge\u{1b}[0m".as_bytes()), Ok(10));
 //! assert_eq!(measure("你好".as_bytes()), Answer { number: 0, place: 0, count: 4 });
 //!
+//! let text = b"Hello  world!";
+//! let pieces = break_words(text, 5)?;
+//! let contents: Vec<&[u8]> = pieces.iter().map(|piece| piece.content(text)).collect();
+//! assert_eq!(contents, [&b"Hello"[..], b"world", b"!"]);
+//!
 //! // The third byte starts no character.
 //! let refused = display_width(b"ab\xFF").unwrap_err();
 //! assert_eq!(refused, Refusal { number: 2, place: 2 });
 //! assert_eq!(refused.to_string(), "the text is not UTF-8: no character starts at byte 2");
+//! # Ok::<(), Refusal>(())
 //! ```
 //!
 //! Building needs the archive `libkenupatun.a`, and so a program for x86-64: see `build.rs`.
 
 #![warn(missing_docs)]
 
+mod raw;
+mod words;
+
 use std::error::Error;
 use std::fmt;
 
-/// The functions as C sees them. Each has a safe one of the same name below.
-mod raw {
-    use super::Answer;
-
-    extern "C" {
-        pub fn kenupatun_measure(text: *const u8, text_len: usize) -> Answer;
-    }
-}
+pub use words::{break_apart, break_word_into, break_words, break_words_into, find_words, words_into, Word};
 
 /// A text has at most this many bytes.
 pub const TEXT_MOST: usize = 60_000;
+
+/// A line width is at most this.
+pub const WIDTH_MOST: u32 = 255;
 
 /// What every function of Kenupatun answers.
 #[repr(C)]
@@ -79,7 +92,7 @@ impl fmt::Display for Refusal {
         match self.number {
             1 => write!(f, "the text has {place} bytes, more than {TEXT_MOST}"),
             2 => write!(f, "the text is not UTF-8: no character starts at byte {place}"),
-            3 => write!(f, "the line width at index {place} exceeds 255"),
+            3 => write!(f, "the line width at index {place} exceeds {WIDTH_MOST}"),
             4 => write!(f, "there are more than 4096 fragments"),
             5 => write!(f, "the three lists of fragments differ in length"),
             6 => write!(f, "the penalty at index {place} exceeds 1000000"),

@@ -2,7 +2,7 @@
 
 use std::mem::{align_of, offset_of, size_of};
 
-use kenupatun::{display_width, measure, Answer, Refusal};
+use kenupatun::{break_apart, break_words, display_width, find_words, measure, words_into, Answer, Refusal};
 
 /// As `kenupatun.h` has it.
 #[test]
@@ -19,6 +19,8 @@ fn an_empty_slice_is_an_empty_text() {
     assert_eq!(measure(&[]), nothing);
     assert_eq!(measure(&b"abc"[3..]), nothing);
     assert_eq!(measure(&Vec::new()), nothing);
+    assert_eq!(words_into(&[], &mut [], &mut [], &mut [], &mut []), nothing);
+    assert_eq!((find_words(&[]), break_apart(&[], 0), break_words(&[], 0)), (Ok(vec![]), Ok(vec![]), Ok(vec![])));
 }
 
 /// A slice may start at any address.
@@ -39,6 +41,10 @@ fn a_refusal_speaks_plainly() {
     let said = |text: &[u8]| display_width(text).unwrap_err().to_string();
     assert_eq!(said(&[b'a'; 60_001]), "the text has 60001 bytes, more than 60000");
     assert_eq!(said(b"abc\xC0\x80"), "the text is not UTF-8: no character starts at byte 3");
+    let wide = break_apart(b"abc", 256).unwrap_err();
+    assert_eq!(wide.to_string(), "the line width at index 0 exceeds 255");
+    let short = words_into(b"a b c", &mut [0; 12], &mut [0; 12], &mut [0; 11], &mut [0; 12]).result().unwrap_err();
+    assert_eq!(short.to_string(), "a list is too short: 3 places are needed");
     let unknown = Refusal { number: 99, place: 7 };
     assert_eq!(unknown.to_string(), "refusal 99 at place 7");
 }

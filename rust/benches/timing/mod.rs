@@ -23,13 +23,19 @@ impl Table {
 
     /// Times both on one input and prints a row. Above 1 in the last column, ours is faster.
     /// Both answer what they computed, and it must be the same.
-    pub fn row(&mut self, name: &str, bytes: usize, ours: impl Fn() -> usize, theirs: impl Fn() -> usize) {
+    pub fn row(
+        &mut self,
+        name: &str,
+        bytes: usize,
+        mut ours: impl FnMut() -> usize,
+        mut theirs: impl FnMut() -> usize,
+    ) {
         assert_eq!(ours(), theirs(), "{name}: ours and the crate's differ");
-        let (our_turns, their_turns) = (turns_in_a_round(&ours), turns_in_a_round(&theirs));
+        let (our_turns, their_turns) = (turns_in_a_round(&mut ours), turns_in_a_round(&mut theirs));
         let (mut our_best, mut their_best) = (f64::MAX, f64::MAX);
         for _ in 0..ROUNDS {
-            our_best = our_best.min(nanoseconds(&ours, our_turns));
-            their_best = their_best.min(nanoseconds(&theirs, their_turns));
+            our_best = our_best.min(nanoseconds(&mut ours, our_turns));
+            their_best = their_best.min(nanoseconds(&mut theirs, their_turns));
         }
         let per_byte = |nanoseconds: f64| nanoseconds / bytes as f64;
         let (our_best, their_best) = (per_byte(our_best), per_byte(their_best));
@@ -38,7 +44,7 @@ impl Table {
 }
 
 /// How often `work` is done in a round. Finding out warms it up.
-fn turns_in_a_round(work: &impl Fn() -> usize) -> u32 {
+fn turns_in_a_round(work: &mut impl FnMut() -> usize) -> u32 {
     let start = Instant::now();
     let mut turns = 0;
     while start.elapsed() < ROUND {
@@ -49,7 +55,7 @@ fn turns_in_a_round(work: &impl Fn() -> usize) -> u32 {
 }
 
 /// The time of one turn, out of one round.
-fn nanoseconds(work: &impl Fn() -> usize, turns: u32) -> f64 {
+fn nanoseconds(work: &mut impl FnMut() -> usize, turns: u32) -> f64 {
     let start = Instant::now();
     for _ in 0..turns {
         black_box(work());

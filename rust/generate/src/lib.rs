@@ -2,6 +2,7 @@
 //!
 //! - [`Rng`]: numbers from a seed, the same on every machine.
 //! - [`text`]: texts that reach the corners of escapes, widths and UTF-8.
+//! - [`words`]: texts that reach the corners of words, and widths to break them at.
 //! - [`damage`]: texts that are not UTF-8, or no longer what they were.
 //! - [`every_string`]: all short strings over an alphabet.
 //! - [`run`]: runs a check on many cases and, where it fails, shrinks the case ([`shrink`]).
@@ -14,6 +15,7 @@
 pub mod damage;
 pub mod shrink;
 pub mod text;
+pub mod words;
 
 mod exhaustive;
 mod rng;

@@ -42,6 +42,17 @@ impl Rng {
     pub fn pick<T: Copy>(&mut self, list: &[T]) -> T {
         list[self.below(list.len())]
     }
+
+    /// A number below the length of a list that says how often each comes.
+    pub fn kind(&mut self, mixture: &[usize]) -> usize {
+        let mut at = self.below(mixture.iter().sum());
+        let mut kind = 0;
+        while at >= mixture[kind] {
+            at -= mixture[kind];
+            kind += 1;
+        }
+        kind
+    }
 }
 
 #[cfg(test)]
@@ -65,5 +76,16 @@ mod tests {
         }
         assert_eq!(seen[..3], [0, 0, 0]);
         assert!(seen[3..].iter().all(|&times| times > 150), "{seen:?}");
+    }
+
+    #[test]
+    fn kinds_come_as_often_as_asked() {
+        let mut rng = Rng::of_case(1, 1);
+        let mut seen = [0; 4];
+        for _ in 0..1000 {
+            seen[rng.kind(&[0, 1, 0, 3])] += 1;
+        }
+        assert_eq!((seen[0], seen[2]), (0, 0));
+        assert!((150..350).contains(&seen[1]), "{seen:?}");
     }
 }

@@ -1,8 +1,12 @@
 //! Making a case that fails smaller while it still fails.
 
+use std::time::{Duration, Instant};
+
 /// Tries made before the smallest case so far is taken: a long text is tried often enough
 /// to become short, and a case that cannot shrink does not hold up the run.
 const TRIES_MOST: usize = 5_000;
+/// The same for the time that they take: a long text is slow to try.
+const TIME_MOST: Duration = Duration::from_secs(10);
 
 /// A kind of case that can be made smaller.
 pub trait Shrink: Clone {
@@ -36,7 +40,7 @@ impl Item for u16 {
 
 impl<T: Item> Shrink for Vec<T> {
     fn shrink(&self, fails: &mut dyn FnMut(&Vec<T>) -> bool) -> Vec<T> {
-        let mut search = Search { best: self.clone(), tries: 0, fails };
+        let mut search = Search { best: self.clone(), tries: 0, start: Instant::now(), fails };
         while search.shorter() || search.plainer() {}
         search.best
     }
@@ -57,10 +61,36 @@ impl<A: Shrink, B: Shrink> Shrink for (A, B) {
     }
 }
 
+impl<T: Shrink, const N: usize> Shrink for [T; N] {
+    fn shrink(&self, fails: &mut dyn FnMut(&[T; N]) -> bool) -> [T; N] {
+        let mut best = self.clone();
+        for at in 0..N {
+            let part = best[at].shrink(&mut |part| {
+                let mut parts = best.clone();
+                parts[at] = part.clone();
+                fails(&parts)
+            });
+            best[at] = part;
+        }
+        best
+    }
+}
+
+impl Shrink for u32 {
+    fn shrink(&self, fails: &mut dyn FnMut(&u32) -> bool) -> u32 {
+        let mut best = *self;
+        while let Some(less) = [0, best / 2, best.saturating_sub(1)].into_iter().find(|n| *n < best && fails(n)) {
+            best = less;
+        }
+        best
+    }
+}
+
 /// The smallest list so far.
 struct Search<'a, T> {
     best: Vec<T>,
     tries: usize,
+    start: Instant,
     fails: &'a mut dyn FnMut(&Vec<T>) -> bool,
 }
 
@@ -76,7 +106,7 @@ impl<T: Item> Search<'_, T> {
     }
 
     fn is_tired(&self) -> bool {
-        self.tries >= TRIES_MOST
+        self.tries >= TRIES_MOST || self.start.elapsed() >= TIME_MOST
     }
 
     /// Leaves out what the failure does not need, halves first, single items last.
@@ -137,6 +167,12 @@ mod tests {
         let lists = (vec![9_u16, 300, 7], vec![500_u16, 2]);
         let small = lists.shrink(&mut |(a, b)| a.iter().any(|n| *n > 20) && b.len() > 1);
         assert_eq!(small, (vec![21], vec![0, 0]));
+    }
+
+    #[test]
+    fn numbers_shrink() {
+        assert_eq!(255_u32.shrink(&mut |n| *n > 99), 100);
+        assert_eq!([9_u32, 300, 7].shrink(&mut |[a, b, c]| a + b > 20 && *c > 2), [0, 21, 3]);
     }
 
     #[test]

@@ -75,13 +75,18 @@ pub fn of_length(rng: &mut Rng, len: usize) -> String {
 
 /// A text of any length: most have a few bytes, some have hundreds, one in a thousand up to 60,000.
 pub fn any(rng: &mut Rng) -> String {
-    let len = match rng.below(1000) {
+    let len = length(rng);
+    of_length(rng, len)
+}
+
+/// The length of a text of any length.
+pub(crate) fn length(rng: &mut Rng) -> usize {
+    match rng.below(1000) {
         0 => rng.between(2_000, 60_000),
         1..=49 => rng.between(300, 2_000),
         50..=399 => rng.between(24, 300),
         _ => rng.between(0, 24),
-    };
-    of_length(rng, len)
+    }
 }
 
 /// Any character but a surrogate, each length in UTF-8 as often as the others.
@@ -120,14 +125,8 @@ pub fn escape(rng: &mut Rng) -> String {
 }
 
 fn push_part(rng: &mut Rng, mixture: &[usize; 7], text: &mut String) {
-    let mut at = rng.below(mixture.iter().sum());
-    let mut kind = 0;
-    while at >= mixture[kind] {
-        at -= mixture[kind];
-        kind += 1;
-    }
-    match kind {
-        0 => push_word(rng, text),
+    match rng.kind(mixture) {
+        0 => push_letters(rng, 11, text),
         1 => text.extend(std::iter::repeat_n(' ', if rng.one_in(4) { rng.between(2, 5) } else { 1 })),
         2 => text.push_str(rng.pick(&LINE_ENDS)),
         3 => text.push(corner(rng)),
@@ -137,8 +136,9 @@ fn push_part(rng: &mut Rng, mixture: &[usize; 7], text: &mut String) {
     }
 }
 
-fn push_word(rng: &mut Rng, text: &mut String) {
-    for _ in 0..rng.between(1, 11) {
+/// A word of letters, few of them not ASCII: at least one, at most so many.
+pub(crate) fn push_letters(rng: &mut Rng, most: usize, text: &mut String) {
+    for _ in 0..rng.between(1, most) {
         text.push(if rng.one_in(12) {
             rng.pick(&['é', 'ß', '-', ',', '.'])
         } else {
@@ -156,7 +156,7 @@ fn corner(rng: &mut Rng) -> char {
 }
 
 /// Cuts a text to at most `len` bytes, between two characters.
-fn cut(text: &mut String, mut len: usize) {
+pub(crate) fn cut(text: &mut String, mut len: usize) {
     if len >= text.len() {
         return;
     }
