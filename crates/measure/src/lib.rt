@@ -1,17 +1,16 @@
 // The columns of a text: escapes, which take none, and the width of a character. Follows `core.rs`:
-// `ch_width` and `display_width` have their names there; `next_mode` does the work of
-// `skip_ansi_escape_sequence`.
+// `ch_width`, `skip_ansi_escape_sequence` and `display_width` have their names there.
 //
 // There is one walk over characters, `columns_until`, and it can be told a character to stop before. To
 // measure a text it is told none; to measure a word it is told the space. No rule about words, lines or
 // widths of lines stands here.
 ghost use mathlib.Core.Path.{_≡_};
-ghost use Prim.Native.Nat.{_+_};
-ghost use lib.ListN.{drop};
+ghost use Prim.Native.Nat.{_+_, _<_};
+ghost use lib.ListN.{length, drop};
 ghost use Rattle.logic.specs.Count.{count};
 ghost use Rattle.measure.specs.Escapes.{columns, next, inText, taken};
 ghost use Rattle.measure.specs.Measure.{passedOf, measureOf, answerOf};
-ghost use Rattle.measure.specs.Walk.{plain, runEnd};
+ghost use Rattle.measure.specs.Walk.{Passes, Steps, plain};
 use chars::Read;
 use units::Answer;
 use units::Columns;
@@ -158,14 +157,44 @@ fn plain_end(text: &[u8], from: usize, stop: u32) -> usize
     at
 }
 
-// The same in plain text; in an escape no byte is plain.
-fn run_end(text: &[u8], from: usize, mode: Mode, stop: u32) -> usize
-    ensures { λ r. ⌜ r ≡ runEnd mode stop (now (text .entry)) from ⌝ }
+// Passes the rest of an escape, `from` standing directly after its ESC: to where it ends, or before
+// `stop`, or to the end of the text.
+fn skip_ansi_escape_sequence(text: &[u8], from: Offset, stop: u32) -> Passed
+    ensures { λ r. ⌜ Passes stop (now (text .entry)) (from .0) Mode.Esc r ⌝ }
 {
-    if is_text(mode) {
-        return plain_end(text, from, stop);
+    let mut at = from;
+    let mut mode = Mode::Esc;
+    while at.0 < text.len() {
+        let Read::Char(c, after) = chars::read_char(text, at) else {
+            return Passed::Fault(at);
+        };
+        if c == stop {
+            return Passed::To(Columns(0), at);
+        }
+        mode = next_mode(mode, c);
+        at = after;
+        if is_text(mode) {
+            return Passed::To(Columns(0), at);
+        }
     }
-    from
+    Passed::To(Columns(0), at)
+}
+
+// Passes one character of plain text, or one whole escape, or nothing where `stop` stands.
+fn step(text: &[u8], at: Offset, stop: u32) -> Passed
+    requires { ⌜ at .0 < length (now text) ⌝ }
+    ensures { λ r. ⌜ Steps stop (now (text .entry)) (at .0) r ⌝ }
+{
+    let Read::Char(c, after) = chars::read_char(text, at) else {
+        return Passed::Fault(at);
+    };
+    if c == stop {
+        return Passed::To(Columns(0), at);
+    }
+    if c == ESC {
+        return skip_ansi_escape_sequence(text, after, stop);
+    }
+    Passed::To(Columns(ch_width(c)), after)
 }
 
 // The columns of the characters from a place up to the first that is `stop`, or else to the end of the
@@ -175,31 +204,26 @@ pub fn columns_until(text: &[u8], from: Offset, stop: u32) -> Passed
 {
     let mut at = from;
     let mut cols = Columns(0);
-    let mut mode = Mode::Text;
     while at.0 < text.len() {
-        let end = run_end(text, at.0, mode, stop);
+        let end = plain_end(text, at.0, stop);
         if at.0 < end {
             let run = end - at.0;
             let sum = cols.0 + run;
             cols = Columns(sum);
             at = Offset(end);
         } else {
-            let Read::Char(c, after) = chars::read_char(text, at) else {
-                return Passed::Fault(at);
-            };
-            if c == stop {
-                return Passed::To(cols, at);
-            }
-            at = after;
-            if is_text(mode) {
-                if c == ESC {
-                    mode = Mode::Esc;
-                } else {
-                    let wider = cols.0 + ch_width(c);
-                    cols = Columns(wider);
+            match step(text, at, stop) {
+                Passed::To(more, after) => {
+                    if after.0 == at.0 {
+                        return Passed::To(cols, at);
+                    }
+                    let sum = cols.0 + more.0;
+                    cols = Columns(sum);
+                    at = after;
                 }
-            } else {
-                mode = next_mode(mode, c);
+                Passed::Fault(fault) => {
+                    return Passed::Fault(fault);
+                }
             }
         }
     }
