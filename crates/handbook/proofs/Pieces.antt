@@ -6,7 +6,8 @@ use Prim.Native.Nat.{ℕ, _-_}
 use lib.ListN.{length, take}
 use Rattle.chars.specs.Utf8.{Whole}
 use Rattle.pieces.specs.Pieces.{trimmed, breakApart, breakWords}
-use Rattle.pieces.specs.Parts.{contentOf, bytesOf, joined, Good, Follows, Last, Every, Linked}
+use Rattle.words.specs.Bytes.{contentOf}
+use Rattle.pieces.specs.Parts.{bytesOf, joined, Good, Follows, Last, Every, Linked}
 use Rattle.pieces.proofs.Laws as laws
 
 -- The pieces of a word, one after the other, are its content.

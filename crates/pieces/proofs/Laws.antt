@@ -15,7 +15,8 @@ use Rattle.measure.specs.declared.Mode.the-variants.{Text}
 use Rattle.measure.specs.Escapes.{taken, widthFrom, widthOf, modeAfter}
 use Rattle.words.specs.Words.{content}
 use Rattle.pieces.specs.Pieces.{fitting, piece, rest, pieceEnd, pieceAt, pieces, trimmed, wordFrom, breakApart, breakWords}
-use Rattle.pieces.specs.Parts.{contentOf, bytesOf, joined, widths, Good, Some, Follows, Last, Every, Chained, Linked}
+use Rattle.words.specs.Bytes.{contentOf}
+use Rattle.pieces.specs.Parts.{bytesOf, joined, widths, Good, Some, Follows, Last, Every, Chained, Linked}
 use Rattle.pieces.specs.Steps.{all-words, stepPiece, stepEnd, afterStep, stepPieces}
 use Rattle.pieces.proofs.Fitting.{leaving, Leaves, next-piece, leaves, starts-says, takes-text, parts-width, piece-first, too-wide-one}
 use Rattle.pieces.proofs.Trimming.{trimmed-fits, trimmed-whole}

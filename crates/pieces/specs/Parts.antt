@@ -10,11 +10,9 @@ use Rattle.measure.specs.declared.Mode.{Mode}
 use Rattle.measure.specs.declared.Mode.the-variants.{Text}
 use Rattle.measure.specs.Escapes.{next, taken, widthOf, modeAfter}
 use Rattle.words.specs.declared.Word.{Word}
+use Rattle.words.specs.Bytes.{contentOf}
 
--- The bytes of a word or piece of the text s: its content; its content and whitespace.
-abbrev pub contentOf : List ℕ → Word → List ℕ
-contentOf s x = take (x .end .0 - x .start .0) (drop (x .start .0) s)
-
+-- The bytes of a word or piece of the text s, its content and whitespace. (`contentOf` is that of words.)
 abbrev pub bytesOf : List ℕ → Word → List ℕ
 bytesOf s x = take (x .end .0 + x .white .0 - x .start .0) (drop (x .start .0) s)
 
