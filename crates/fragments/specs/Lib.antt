@@ -1,0 +1,3 @@
+pub mod Fragments
+pub mod Lists
+pub mod Answers
