@@ -6,16 +6,20 @@ use Prim.Native.Nat.{ℕ, zero, suc, _+_, _-_, _≤_, _<_, min}
 use native.Mathlib.Numerals.{add-one}
 use native.Mathlib.Nat.{zero-add}
 use native.Mathlib.Omega.{arith}
-use lib.Dec.{leb}
+use lib.Dec.{leb, ltb, eqb}
 use lib.ListN.{length, getD, drop, drop-of-length-le, List·getD-eq-default}
 use lib.Seq.{drop-cons, getD-drop}
-use borrow.Author.Tests.{le-leb, lt-leb}
+use borrow.Author.Tests.{le-leb, lt-leb, eqb-true, ltb-false}
 use Rattle.units.specs.declared.Answer.{Answer}
+use Rattle.units.specs.Limits.{fragmentsMost}
 use Rattle.logic.specs.Count.{count}
+use Rattle.logic.proofs.Choice.{both}
 use Rattle.logic.proofs.Count.{Counting, counting-start, counting-step, counting-stop, counting-end}
 use Rattle.fragments.specs.declared.Laid.{Laid}
+use Rattle.fragments.specs.declared.Tested.{Tested}
+use Rattle.fragments.specs.declared.Tested.the-variants.{Good}
 use Rattle.fragments.specs.Fragments.{Fragment, fragments}
-use Rattle.fragments.specs.Lists.{widthOf, firstAbove}
+use Rattle.fragments.specs.Lists.{widthOf, firstAbove, testedOf}
 use Rattle.fragments.specs.Answers.{answerOf}
 
 -- The numbers before i are at most `most`.
@@ -71,3 +75,22 @@ fragments-at (w ∷ ws) ss ps (suc i) h = rw (← (shift ss i), ← (shift ps i)
   where
     shift : (l : List ℕ) (i : ℕ) → getD (drop 1 l) i 0 ≡ getD l (suc i) 0
     shift l i = getD-drop 1 l i 0 ∙ ap (λ (n : ℕ). getD l n 0) (let e : 1 + i ≡ suc i = omega arith in e)
+
+-- What lists that were found good are.
+pub record Sound (words whites penalties : ℕ) : Type 0 where
+  pub whites-same : whites ≡ words
+  pub penalties-same : penalties ≡ words
+  pub few : words ≤ fragmentsMost
+
+pub tested-good : {t : Tested} (words whites penalties wide widths : ℕ) → t ≡ testedOf words whites penalties wide widths → t ≡ Good → Sound words whites penalties × (widths ≤ wide)
+unfolding testedOf
+tested-good words whites penalties wide widths e g =
+    both (eqb whites words)
+    (λ a. both (eqb penalties words)
+    (λ b. both (ltb fragmentsMost words)
+    (λ c. absurd (let q = rw (a, b, c) at e in let z : _≡_ {A = ℕ} 0 1 = cc in omega arith))
+    (λ c. both (ltb wide widths)
+    (λ d. absurd (let q = rw (a, b, c, d) at e in let z : _≡_ {A = ℕ} 0 1 = cc in omega arith))
+    (λ d. (record { whites-same = eqb-true whites words a; penalties-same = eqb-true penalties words b; few = ltb-false fragmentsMost words c }, ltb-false wide widths d))))
+    (λ b. absurd (let q = rw (a, b) at e in let z : _≡_ {A = ℕ} 0 1 = cc in omega arith)))
+    (λ a. absurd (let q = rw a at e in let z : _≡_ {A = ℕ} 0 1 = cc in omega arith))

@@ -1,0 +1,4 @@
+pub mod Laying
+pub mod Entering
+pub mod Groupings
+pub mod OneWidth

@@ -1,0 +1,3 @@
+pub mod FirstFit
+pub mod Entry
+pub mod Groupings
