@@ -1,5 +1,5 @@
 -- "wider numbers of a list go as bytes there, high first; bytes left over at the end are no number and are not touched"
-use Prim.Native.Nat.{ℕ, _/_, _%_}
+use Prim.Native.Nat.{ℕ, _+_, _*_, _/_, _%_}
 use mathlib.Core.List.{List, [], _∷_}
 use lib.ListN.{length}
 
@@ -10,3 +10,17 @@ be32 v = (v / 16777216 % 256) ∷ (v / 65536 % 256) ∷ (v / 256 % 256) ∷ (v %
 -- The places of a list of 32-bit numbers.
 abbrev pub places32 : List ℕ → ℕ
 places32 l = length l / 4
+
+-- A number of 16 bits as two bytes.
+abbrev pub be16 : ℕ → List ℕ
+be16 v = (v / 256 % 256) ∷ (v % 256) ∷ []
+
+-- The 16-bit numbers that a list of bytes holds; a byte left over is no number.
+unfoldable pub numbers16 : List ℕ → List ℕ
+numbers16 [] = []
+numbers16 (a ∷ []) = []
+numbers16 (a ∷ b ∷ l) = (a * 256 + b) ∷ numbers16 l
+
+-- The places of a list of 16-bit numbers.
+abbrev pub places16 : List ℕ → ℕ
+places16 l = length l / 2
