@@ -42,18 +42,19 @@ below-end b h = counting-end (b .passed) h ∙ zero-add _
 
 pub ruleset looking = (below-start, below-step, below-stop, below-end)
 
--- The width of a line, by where its number lies.
-pub width-none : {r : ℕ} (ws : List ℕ) (k : ℕ) → length ws ≡ 0 → r ≡ 0 → r ≡ widthOf ws k
-unfolding widthOf
-width-none ws k e q = q ∙ sym (List·getD-eq-default ws 0 (omega arith))
+-- The width of a line, by where its number lies in a list of n widths.
+module _ {r n : ℕ} (ws : List ℕ) (k : ℕ) (l : n ≡ length ws) where
+  pub width-none : n ≡ 0 → r ≡ 0 → r ≡ widthOf ws k
+  unfolding widthOf
+  width-none e q = q ∙ sym (List·getD-eq-default ws 0 (omega arith))
 
-pub width-in : {r : ℕ} (ws : List ℕ) (k : ℕ) → k < length ws → r ≡ getD ws k 0 → r ≡ widthOf ws k
-unfolding widthOf
-width-in ws k h q = let e : k ≡ min k (length ws - 1) = omega arith in q ∙ ap (λ (n : ℕ). getD ws n 0) e
+  pub width-in : k < n → r ≡ getD ws k 0 → r ≡ widthOf ws k
+  unfolding widthOf
+  width-in h q = let e : k ≡ min k (length ws - 1) = omega arith in q ∙ ap (λ (i : ℕ). getD ws i 0) e
 
-pub width-last : {r : ℕ} (ws : List ℕ) (k : ℕ) → length ws ≤ k → r ≡ getD ws (length ws - 1) 0 → r ≡ widthOf ws k
-unfolding widthOf
-width-last ws k h q = let e : length ws - 1 ≡ min k (length ws - 1) = omega arith in q ∙ ap (λ (n : ℕ). getD ws n 0) e
+  pub width-last : n ≤ k → r ≡ getD ws (n - 1) 0 → r ≡ widthOf ws k
+  unfolding widthOf
+  width-last h q = let e : n - 1 ≡ min k (length ws - 1) = omega arith in q ∙ ap (λ (i : ℕ). getD ws i 0) e
 
 pub ruleset widths = (width-none, width-in, width-last)
 
