@@ -4,7 +4,7 @@ use mathlib.Core.List.{List, map}
 use lib.ListN.{length}
 use Rattle.units.specs.declared.Answer.{Answer}
 use Rattle.logic.specs.Flat.{flat}
-use Rattle.wire.specs.Wire.{be32, places32}
+use Rattle.wire.specs.Wire.{be16, be32, numbers16, places16, places32}
 use Rattle.measure.specs.Measure as measure
 use Rattle.words.specs.declared.Word.{Word}
 use Rattle.words.specs.declared.Listed.{Listed}
@@ -13,6 +13,11 @@ use Rattle.words.specs.Lists as lists
 use Rattle.pieces.specs.declared.Broken.{Broken}
 use Rattle.pieces.specs.Pieces.{breakApart, breakWords}
 use Rattle.pieces.specs.Lists as pieces
+use Rattle.fragments.specs.declared.Laid.{Laid}
+use Rattle.fragments.specs.Fragments.{fragments}
+use Rattle.fragments.specs.Answers as layouts
+use Rattle.first_fit.specs.FirstFit.{lineEnds}
+use Rattle.first_fit.specs.Entry.{firstFitOf, Lays}
 
 abbrev pub measured : List ℕ → Answer
 measured text = measure.answerOf (measure.measureOf text)
@@ -44,3 +49,13 @@ wordsLeft answer f ws l = lists.Finds answer (flat be32 (map f ws)) l
 
 abbrev pub piecesLeft : Broken → (Word → ℕ) → List Word → List ℕ → List ℕ
 piecesLeft answer f ps l = pieces.Lists answer (flat be32 (map f ps)) l
+
+-- First fit of lists of bytes: what it answers, its numbers, and the list of ends after it.
+abbrev pub firstFit : List ℕ → List ℕ → List ℕ → List ℕ → List ℕ → Laid
+firstFit words whites penalties widths ends = firstFitOf (numbers16 words) (numbers16 whites) (numbers16 penalties) (numbers16 widths) (places16 ends)
+
+abbrev pub laidAnswer : Laid → Answer
+laidAnswer answer = layouts.answerOf answer
+
+abbrev pub firstFitLeft : Laid → List ℕ → List ℕ → List ℕ → List ℕ → List ℕ → List ℕ
+firstFitLeft answer words whites penalties widths ends = Lays answer (flat be16 (lineEnds (numbers16 widths) (fragments (numbers16 words) (numbers16 whites) (numbers16 penalties)))) ends

@@ -5,7 +5,7 @@ ghost use mathlib.Core.Path.{_≡_};
 ghost use Rattle.words.specs.Words.{words};
 ghost use Rattle.words.specs.Lists.{startOf, endOf, whiteOf, widthOfWord};
 ghost use Rattle.pieces.specs.Pieces.{breakApart, breakWords};
-ghost use Rattle.kenupatun.specs.Exports.{measured, found, foundAnswer, brokenWord, brokenWords, brokenAnswer, wordsLeft, piecesLeft};
+ghost use Rattle.kenupatun.specs.Exports.{measured, found, foundAnswer, brokenWord, brokenWords, brokenAnswer, wordsLeft, piecesLeft, firstFit, laidAnswer, firstFitLeft};
 use units::Answer;
 
 // The columns of a text, as the count; or refusal 1 or 2.
@@ -70,4 +70,20 @@ pub extern "C" fn kenupatun_break_words(
     ensures { λ _. ⌜ now (widths .exit) ≡ piecesLeft (brokenWords (now (text .entry)) width (now (starts .entry)) (now (ends .entry)) (now (whites .entry)) (now (widths .entry))) widthOfWord (breakWords (now (text .entry)) width) (now (widths .entry)) ⌝ }
 {
     pieces::answer_of(piece_bytes::break_words(text, width, starts, ends, whites, widths))
+}
+
+// The ends of the lines of first fit, in a list of 16-bit numbers, and how many lines there are; or
+// refusal 5, 4, 3 or 7.
+#[no_mangle]
+pub extern "C" fn kenupatun_first_fit(
+    words: &[u8],
+    whites: &[u8],
+    penalties: &[u8],
+    widths: &[u8],
+    ends: &mut [u8],
+) -> Answer
+    ensures { λ r. ⌜ r ≡ laidAnswer (firstFit (now (words .entry)) (now (whites .entry)) (now (penalties .entry)) (now (widths .entry)) (now (ends .entry))) ⌝ }
+    ensures { λ _. ⌜ now (ends .exit) ≡ firstFitLeft (firstFit (now (words .entry)) (now (whites .entry)) (now (penalties .entry)) (now (widths .entry)) (now (ends .entry))) (now (words .entry)) (now (whites .entry)) (now (penalties .entry)) (now (widths .entry)) (now (ends .entry)) ⌝ }
+{
+    fragments::answer_of(layout_bytes::wrap_first_fit(words, whites, penalties, widths, ends))
 }
