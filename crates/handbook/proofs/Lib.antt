@@ -5,3 +5,4 @@ pub mod Measuring
 pub mod Words
 pub mod Pieces
 pub mod Listing
+pub mod FirstFit
