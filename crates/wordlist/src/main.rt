@@ -3,9 +3,9 @@
 //
 //     wordlist [WIDTH [PLACES]]
 //
-// Texts come on standard input, at most 65,536 bytes together, with the byte FF between two of them: no
-// UTF-8 text has it. Pieces are of WIDTH columns, 42 unless it is given; lists have PLACES places, 60,000
-// unless it is given. For each text four entries are called; of each the numbers of document 01 are
+// Texts come on standard input, with the byte FF between two of them: no UTF-8 text has it. The first
+// 65,536 bytes are read. Pieces are of WIDTH columns, 42 unless it is given; lists have PLACES places,
+// 60,000 unless it is given. For each text four entries are called; of each the numbers of document 01 are
 // written on a line (number, place, count), then a line for each word or piece (start, content end,
 // whitespace length, width). What a word is stands in the crates that are called.
 mod number;

@@ -1,3 +1,4 @@
+-- `list_read` is safe and ends: it takes at most as many turns as the text has bytes. Nothing has to hold from turn to turn.
 use borrow.Author.Needs.{needs}
 use Rattle.wordlist.proofs.list_read.Statement.{statement}
 use Rattle.wordlist.proofs.list_read.Tie as tie

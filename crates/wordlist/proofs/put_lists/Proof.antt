@@ -1,5 +1,5 @@
+-- `put_lists` is safe and ends: each list has the places of the shortest. The measure is how many of them are left.
 use Prim.Native.Nat.{_≤_, _-_}
-use native.Mathlib.Omega.{arith}
 use lib.ListN.{length}
 use borrow.Author.Needs.{needs}
 use Rattle.wordlist.proofs.put_lists.Statement.{statement}
