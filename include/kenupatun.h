@@ -31,7 +31,7 @@ extern "C" {
 #define KENUPATUN_WIDTH_MOST 255
 
 /*
- * What every function answers.
+ * What every function answers, kenupatun_word_from with a word besides.
  *
  *   number  0: done. Any other: refused, and the number says why.
  *   place   0 when done. When refused, where the fault is (see the numbers below).
@@ -93,9 +93,30 @@ kenupatun_answer kenupatun_words(const uint8_t *text, size_t text_len,
                                  uint8_t *whites, size_t whites_len, uint8_t *widths, size_t widths_len);
 
 /*
- * One word, broken into pieces of at most `width` columns. The whole text is the word:
- * the spaces at its end are its whitespace, all before them, also other spaces, its
- * content.
+ * An answer and a word: `number`, `place` and `count` as in kenupatun_answer, then the
+ * numbers that kenupatun_words lists for a word. They are all 0 when refused.
+ */
+typedef struct {
+    uint32_t number;
+    uint64_t place;
+    uint64_t count;
+    uint64_t start;
+    uint64_t end;
+    uint64_t white;
+    uint64_t width;
+} kenupatun_word;
+
+/*
+ * A whole text as one word: the spaces at its end are its whitespace, all before them,
+ * also other spaces, its content. So the start is 0, and the content may be empty.
+ *
+ * The count is 1. Refusals: 1, then 2.
+ */
+kenupatun_word kenupatun_word_from(const uint8_t *text, size_t text_len);
+
+/*
+ * One word, broken into pieces of at most `width` columns. The whole text is the word,
+ * as kenupatun_word_from takes it.
  *
  * A character that would make the current piece wider than `width` starts a new piece,
  * unless the current one has no columns yet: a piece may hold one character that is too

@@ -107,6 +107,39 @@ static void words(void)
     expect_rest(what, 0);
 }
 
+/* Holds a text as one word to its answer and its four numbers. */
+static void expect_made(const char *what, const char *text, size_t len, uint32_t number, uint64_t place, uint64_t count,
+                        uint64_t start, uint64_t end, uint64_t white, uint64_t width)
+{
+    kenupatun_word got = kenupatun_word_from((const uint8_t *)text, len);
+    kenupatun_answer answer;
+
+    answer.number = got.number;
+    answer.place = got.place;
+    answer.count = got.count;
+    expect(what, answer, number, place, count);
+    if (got.start == start && got.end == end && got.white == white && got.width == width)
+        return;
+    failures++;
+    fprintf(stderr, "%s: the word is %llu %llu %llu %llu\n", what, (unsigned long long)got.start,
+            (unsigned long long)got.end, (unsigned long long)got.white, (unsigned long long)got.width);
+}
+
+static void one_word(void)
+{
+    static char text[KENUPATUN_TEXT_MOST + 1];
+
+    expect_made("a word of two", " foo bar  ", 10, 0, 0, 1, 0, 8, 2, 8);
+    expect_made("a word of two wide characters", "\xe4\xbd\xa0\xe5\xa5\xbd ", 7, 0, 0, 1, 0, 6, 1, 4);
+    expect_made("a word with empty content", "   ", 3, 0, 0, 1, 0, 0, 3, 0);
+    expect_made("an empty text as a word", "", 0, 0, 0, 1, 0, 0, 0, 0);
+    expect_made("a word cut short", "ab\xe4\xbd ", 5, KENUPATUN_NOT_UTF8, 2, 0, 0, 0, 0, 0);
+
+    memset(text, 'a', sizeof text);
+    expect_made("a word of 60,000 bytes", text, KENUPATUN_TEXT_MOST, 0, 0, 1, 0, 60000, 0, 60000);
+    expect_made("a word of 60,001 bytes", text, sizeof text, KENUPATUN_TEXT_TOO_LONG, 60001, 0, 0, 0, 0, 0);
+}
+
 static void breaks(void)
 {
     const uint8_t *hello = (const uint8_t *)"Hello!  ", *wide = (const uint8_t *)" \xe4\xbd\xa0\xe5\xa5\xbd";
@@ -139,6 +172,7 @@ int main(void)
 {
     measures();
     words();
+    one_word();
     breaks();
     if (failures == 0)
         puts("the header and the archive agree");

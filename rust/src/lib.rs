@@ -5,13 +5,14 @@
 //! (`include/kenupatun.h`) and adds nothing to what it answers.
 //!
 //! Each function comes in two forms. The plain one gives the [`Answer`] as it comes back: a
-//! number, a place and a count. The other bears the name that the crate `textwrap` gives it and
+//! number, a place and a count ([`word_of`] a word besides). The other bears the name that the crate `textwrap` gives it and
 //! answers a [`Result`].
 //!
 //! | plain | as in `textwrap` | what it does |
 //! |---|---|---|
 //! | [`measure`] | [`display_width`] | the columns of a text |
 //! | [`words_into`] | [`find_words`] | the words of a text |
+//! | [`word_of`] | [`word_from`] | a whole text as one word |
 //! | [`break_word_into`] | [`break_apart`] | one word, broken into pieces |
 //! | [`break_words_into`] | [`break_words`] | the words of a text, the wide ones broken |
 //!
@@ -47,7 +48,10 @@ mod words;
 use std::error::Error;
 use std::fmt;
 
-pub use words::{break_apart, break_word_into, break_words, break_words_into, find_words, words_into, Word};
+pub use words::{
+    break_apart, break_word_into, break_words, break_words_into, find_words, word_from, word_of, words_into, Word,
+    WordAnswer,
+};
 
 /// A text has at most this many bytes.
 pub const TEXT_MOST: usize = 60_000;

@@ -2,6 +2,7 @@
 //!
 //! Each pointer and the length after it are those of one slice. None of them keeps a pointer.
 
+use crate::words::WordAnswer;
 use crate::Answer;
 
 extern "C" {
@@ -19,6 +20,8 @@ extern "C" {
         widths: *mut u8,
         widths_len: usize,
     ) -> Answer;
+
+    pub fn kenupatun_word_from(text: *const u8, text_len: usize) -> WordAnswer;
 
     pub fn kenupatun_break_word(
         text: *const u8,

@@ -44,6 +44,44 @@ impl Word {
     }
 }
 
+/// An [`Answer`] with a word, as it comes back from [`word_of`].
+#[repr(C)]
+#[derive(Clone, Copy, Debug, PartialEq, Eq, Hash)]
+pub struct WordAnswer {
+    /// As in [`Answer`].
+    pub number: u32,
+    /// As in [`Answer`].
+    pub place: u64,
+    /// 1 when done, for one word. 0 when refused.
+    pub count: u64,
+    /// As in [`Word`]; 0 when refused.
+    pub start: u64,
+    /// As in [`Word`]; 0 when refused.
+    pub end: u64,
+    /// As in [`Word`]; 0 when refused.
+    pub white: u64,
+    /// As in [`Word`]; 0 when refused.
+    pub width: u64,
+}
+
+impl WordAnswer {
+    /// Its number, place and count.
+    pub fn answer(self) -> Answer {
+        Answer { number: self.number, place: self.place, count: self.count }
+    }
+
+    /// The word, or why there is none.
+    pub fn result(self) -> Result<Word, Refusal> {
+        self.answer().result()?;
+        Ok(Word {
+            start: self.start as usize,
+            end: self.end as usize,
+            white: self.white as usize,
+            width: self.width as usize,
+        })
+    }
+}
+
 /// The words of a text, as an [`Answer`] that counts them. Refusals: 1, 2, then 7.
 ///
 /// A word ends where a space is followed by a character that is none; only 20 is a space, also
@@ -86,10 +124,41 @@ pub fn words_into(text: &[u8], starts: &mut [u8], ends: &mut [u8], whites: &mut 
     }
 }
 
+/// A whole text as one word, as a [`WordAnswer`]. Refusals: 1, then 2.
+///
+/// The spaces at the end of the text are the word's whitespace, all before them, also other
+/// spaces, its content, which may be empty.
+///
+/// ```
+/// use kenupatun::{word_of, WordAnswer};
+///
+/// let made = WordAnswer { number: 0, place: 0, count: 1, start: 0, end: 8, white: 2, width: 8 };
+/// assert_eq!(word_of(b" foo bar  "), made);
+/// let refused = WordAnswer { number: 2, place: 1, count: 0, start: 0, end: 0, white: 0, width: 0 };
+/// assert_eq!(word_of(b"a\xFF"), refused);
+/// ```
+pub fn word_of(text: &[u8]) -> WordAnswer {
+    // SAFETY: pointer and length are those of a live slice, and nothing is written through them.
+    unsafe { raw::kenupatun_word_from(text.as_ptr(), text.len()) }
+}
+
+/// A whole text as one word, or why it is refused: [`word_of`] as a [`Result`], the `Word::from`
+/// of `textwrap`.
+///
+/// ```
+/// use kenupatun::{word_from, Word};
+///
+/// assert_eq!(word_from("Café  ".as_bytes()), Ok(Word { start: 0, end: 5, white: 2, width: 4 }));
+/// assert_eq!(word_from(b"   "), Ok(Word { start: 0, end: 0, white: 3, width: 0 }));
+/// ```
+pub fn word_from(text: &[u8]) -> Result<Word, Refusal> {
+    word_of(text).result()
+}
+
 /// One word broken into pieces of at most `width` columns, as an [`Answer`] that counts them.
 /// Refusals: 1, 2, 3, then 7.
 ///
-/// The whole text is the word, the spaces at its end being its whitespace. A character that would
+/// The whole text is the word, as [`word_of`] takes it. A character that would
 /// make the current piece wider than `width` starts a new one, unless the current one has no
 /// columns yet. An escape stays whole, with the piece in which it was met. The last piece has the
 /// whitespace; a word with empty content has no pieces.

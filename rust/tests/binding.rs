@@ -2,7 +2,9 @@
 
 use std::mem::{align_of, offset_of, size_of};
 
-use kenupatun::{break_apart, break_words, display_width, find_words, measure, words_into, Answer, Refusal};
+use kenupatun::{
+    break_apart, break_words, display_width, find_words, measure, word_of, words_into, Answer, Refusal, WordAnswer,
+};
 
 /// As `kenupatun.h` has it.
 #[test]
@@ -13,6 +15,19 @@ fn an_answer_lies_as_in_c() {
     assert_eq!(offset_of!(Answer, count), 16);
 }
 
+/// As `kenupatun_word` of `kenupatun.h` has it.
+#[test]
+fn an_answer_with_a_word_lies_as_in_c() {
+    assert_eq!((size_of::<WordAnswer>(), align_of::<WordAnswer>()), (56, 8));
+    assert_eq!(offset_of!(WordAnswer, number), 0);
+    assert_eq!(offset_of!(WordAnswer, place), 8);
+    assert_eq!(offset_of!(WordAnswer, count), 16);
+    assert_eq!(offset_of!(WordAnswer, start), 24);
+    assert_eq!(offset_of!(WordAnswer, end), 32);
+    assert_eq!(offset_of!(WordAnswer, white), 40);
+    assert_eq!(offset_of!(WordAnswer, width), 48);
+}
+
 #[test]
 fn an_empty_slice_is_an_empty_text() {
     let nothing = Answer { number: 0, place: 0, count: 0 };
@@ -20,6 +35,7 @@ fn an_empty_slice_is_an_empty_text() {
     assert_eq!(measure(&b"abc"[3..]), nothing);
     assert_eq!(measure(&Vec::new()), nothing);
     assert_eq!(words_into(&[], &mut [], &mut [], &mut [], &mut []), nothing);
+    assert_eq!(word_of(&[]), WordAnswer { number: 0, place: 0, count: 1, start: 0, end: 0, white: 0, width: 0 });
     assert_eq!((find_words(&[]), break_apart(&[], 0), break_words(&[], 0)), (Ok(vec![]), Ok(vec![]), Ok(vec![])));
 }
 

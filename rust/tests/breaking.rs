@@ -167,7 +167,7 @@ fn short_and_long_words_at_all_widths() {
     }
 }
 
-/// A word that is not broken comes back as `Word::from` makes it.
+/// A word that is not broken comes back as `Word::from` makes it. (`word.rs` has that word itself.)
 #[test]
 fn a_whole_text_as_one_word() {
     let check = |text: &String| {

@@ -11,6 +11,8 @@ use Rattle.words.specs.declared.Listed.{Listed}
 use Rattle.words.specs.Words.{words}
 use Rattle.words.specs.Lists as lists
 use Rattle.pieces.specs.declared.Broken.{Broken}
+use Rattle.pieces.specs.declared.OneWord.{OneWord}
+use Rattle.pieces.specs.declared.OneWord.the-variants as one
 use Rattle.pieces.specs.Pieces.{breakApart, breakWords}
 use Rattle.pieces.specs.Lists as pieces
 use Rattle.fragments.specs.declared.Laid.{Laid}
@@ -18,9 +20,38 @@ use Rattle.fragments.specs.Fragments.{fragments}
 use Rattle.fragments.specs.Answers as layouts
 use Rattle.first_fit.specs.FirstFit.{lineEnds}
 use Rattle.first_fit.specs.Entry.{firstFitOf, Lays}
+use Rattle.kenupatun.specs.declared.WordAnswer.{WordAnswer}
 
 abbrev pub measured : List ℕ → Answer
 measured text = measure.answerOf (measure.measureOf text)
+
+-- A text as one word: its answer, and the word in numbers. Where the text is refused all numbers of the word are 0.
+abbrev pub withWord : Answer → Word → WordAnswer
+withWord a w = record {
+  number = a .number;
+  place = a .place;
+  count = a .count;
+  start = w .start .0;
+  end = w .end .0;
+  white = w .white .0;
+  width = w .width .0;
+}
+
+abbrev pub noWord : Word
+noWord = record {
+  start = record { 0 = 0 };
+  end = record { 0 = 0 };
+  white = record { 0 = 0 };
+  width = record { 0 = 0 };
+}
+
+unfoldable pub wordIn : OneWord → Word
+wordIn (one.Made w) = w
+wordIn (one.TooLong l) = noWord
+wordIn (one.NotUtf8 o) = noWord
+
+abbrev pub wordMade : List ℕ → WordAnswer
+wordMade text = withWord (pieces.wordAnswerOf (pieces.oneWordOf text)) (wordIn (pieces.oneWordOf text))
 
 -- The places of the shortest of four lists of 32-bit numbers.
 abbrev pub room : List ℕ → List ℕ → List ℕ → List ℕ → ℕ

@@ -1,12 +1,67 @@
-// The functions that C calls, as `include/kenupatun.h` declares them, and nothing else: each turns what
-// an entry of the crates below answers into the numbers of document 01. A slice is a pointer and a
-// length; a list of wider numbers is bytes, high first.
+// The functions that C calls, as `include/kenupatun.h` declares them, and what turns a word into numbers
+// for it: each hands over what an entry of the crates below answers, in the numbers of document 01. A
+// slice is a pointer and a length; a list of wider numbers is bytes, high first.
 ghost use mathlib.Core.Path.{_≡_};
 ghost use Rattle.words.specs.Words.{words};
 ghost use Rattle.words.specs.Lists.{startOf, endOf, whiteOf, widthOfWord};
 ghost use Rattle.pieces.specs.Pieces.{breakApart, breakWords};
-ghost use Rattle.kenupatun.specs.Exports.{measured, found, foundAnswer, brokenWord, brokenWords, brokenAnswer, wordsLeft, piecesLeft, firstFit, laidAnswer, firstFitLeft};
+ghost use Rattle.kenupatun.specs.Exports.{measured, found, foundAnswer, wordMade, withWord, noWord, wordIn, brokenWord, brokenWords, brokenAnswer, wordsLeft, piecesLeft};
+ghost use Rattle.kenupatun.specs.Exports.{firstFit, laidAnswer, firstFitLeft};
+use pieces::OneWord;
 use units::Answer;
+use units::Columns;
+use units::Offset;
+use words::Word;
+
+// What an entry answers, with a word: one of zeros where it is refused. C callers get it by value.
+#[repr(C)]
+pub struct WordAnswer {
+    pub number: u32,
+    pub place: u64,
+    pub count: u64,
+    pub start: u64,
+    pub end: u64,
+    pub white: u64,
+    pub width: u64,
+}
+
+// An answer with a word, in numbers.
+fn with_word(answer: Answer, word: Word) -> WordAnswer
+    ensures { λ r. ⌜ r ≡ withWord answer word ⌝ }
+{
+    WordAnswer {
+        number: answer.number,
+        place: answer.place,
+        count: answer.count,
+        start: word.start.0 as u64,
+        end: word.end.0 as u64,
+        white: word.white.0 as u64,
+        width: word.width.0 as u64,
+    }
+}
+
+// A word of zeros, for a refusal.
+fn no_word() -> Word
+    ensures { λ r. ⌜ r ≡ noWord ⌝ }
+{
+    Word {
+        start: Offset(0),
+        end: Offset(0),
+        white: Columns(0),
+        width: Columns(0),
+    }
+}
+
+// The word that a text is; a word of zeros where it is refused.
+fn word_in(w: OneWord) -> Word
+    ensures { λ r. ⌜ r ≡ wordIn w ⌝ }
+{
+    match w {
+        OneWord::Made(word) => word,
+        OneWord::TooLong(_) => no_word(),
+        OneWord::NotUtf8(_) => no_word(),
+    }
+}
 
 // The columns of a text, as the count; or refusal 1 or 2.
 #[no_mangle]
@@ -32,6 +87,15 @@ pub extern "C" fn kenupatun_words(
     ensures { λ _. ⌜ now (widths .exit) ≡ wordsLeft (found (now (text .entry)) (now (starts .entry)) (now (ends .entry)) (now (whites .entry)) (now (widths .entry))) widthOfWord (words (now (text .entry))) (now (widths .entry)) ⌝ }
 {
     words::answer_of(word_bytes::find_words(text, starts, ends, whites, widths))
+}
+
+// A text as one word, the spaces at its end being its whitespace; or refusal 1 or 2.
+#[no_mangle]
+pub extern "C" fn kenupatun_word_from(text: &[u8]) -> WordAnswer
+    ensures { λ r. ⌜ r ≡ wordMade (now (text .entry)) ⌝ }
+{
+    let made = pieces::word_from(text);
+    with_word(pieces::word_answer_of(made), word_in(made))
 }
 
 // The pieces of a text that is one word, in four lists; or refusal 1, 2, 3 or 7.
