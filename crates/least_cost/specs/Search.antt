@@ -1,0 +1,56 @@
+-- What the parts of the search ask of each other.
+use mathlib.Core.Path.{_≡_}
+use Prim.Native.Nat.{ℕ, _+_, _^_, _≤_, _<_}
+use mathlib.Core.List.{List}
+use lib.ListN.{length}
+use Rattle.units.specs.Limits.{penaltyMost, fragmentsMost}
+use Rattle.cheapest.specs.Table.{at}
+use Rattle.least_cost.specs.declared.Penalties.{Penalties}
+use Rattle.least_cost.specs.Price.{target, priceAt}
+
+-- The penalties are within bounds.
+pub record Small (P : Penalties) : Type 0 where
+  pub line : P .line ≤ penaltyMost
+  pub over : P .overflow ≤ penaltyMost
+  pub part : P .fraction ≤ penaltyMost
+  pub last : P .short ≤ penaltyMost
+  pub dash : P .hyphen ≤ penaltyMost
+
+-- A line can be priced: where T is wanted, L wide, from i.
+pub record Sized (P : Penalties) (T L i : ℕ) : Type 0 where
+  pub small : Small P
+  pub target : T ≤ 65535
+  pub len : L ≤ 2 ^ 30
+  pub from : i < 4096
+
+-- The start i of a line L wide can be priced, by the targets and the costs of the positions.
+pub record Priceable (P : Penalties) (T C : List ℕ) (L i : ℕ) : Type 0 where
+  pub sized : Sized P (at T i) L i
+  pub room : i < length C
+  pub cheap : at C i ≤ 2 ^ 50
+
+-- The three lists have as many numbers as each other, and not too many.
+pub record Even (w s p : List ℕ) : Type 0 where
+  pub whites : length s ≡ length w
+  pub penalties : length p ≡ length w
+  pub few : length w ≤ fragmentsMost
+
+-- Position j can be searched: the costs of the positions before it are known, and their targets, none above `widest`.
+pub record Ready (w s p : List ℕ) (P : Penalties) (T : List ℕ) (widest : ℕ) (C : List ℕ) (j : ℕ) : Type 0 where
+  pub small : Small P
+  pub even : Even w s p
+  pub above : 0 < j
+  pub within : j ≤ length w
+  pub room : j ≤ length C
+  pub cheap : (k : ℕ) → k < j → at C k ≤ 2 ^ 50
+  pub narrow : (k : ℕ) → k < j → at T k ≤ widest
+  pub most : widest ≤ 65535
+
+-- What j costs if its last line starts at i, by the costs and the targets of the positions before it.
+unfoldable pub startPrice : List ℕ → List ℕ → List ℕ → Penalties → List ℕ → List ℕ → ℕ → ℕ → ℕ
+startPrice w s p P T C j i = at C i + priceAt w s p P (at T i) i j
+
+-- No line wants more.
+pub record Widest (ws : List ℕ) (r : ℕ) : Type 0 where
+  pub all : (k : ℕ) → target ws k ≤ r
+  pub low : r ≤ 65535
