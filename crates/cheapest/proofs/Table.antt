@@ -86,7 +86,15 @@ module _ (q : ℕ → ℕ → ℕ → ℕ) where
   unfolding chosenStarts
   starts-length n = omega (arith, lengths n .1)
 
-  -- One position more, and what stays.
+  -- Position 0; one position more, and what stays.
+  pub costs-none : bestCosts q 0 ≡ 0 ∷ []
+  unfolding bestCosts tableOf
+  costs-none = refl
+
+  pub starts-none : chosenStarts q 0 ≡ 0 ∷ []
+  unfolding chosenStarts tableOf
+  starts-none = refl
+
   pub costs-more : (n : ℕ) → bestCosts q (suc n) ≡ bestCosts q n ++ (choice q n (tableOf q n) .1 ∷ [])
   unfolding bestCosts tableOf
   costs-more n = refl
@@ -95,7 +103,7 @@ module _ (q : ℕ → ℕ → ℕ → ℕ) where
   unfolding chosenStarts tableOf
   starts-more n = refl
 
-  grown-same : (n k : ℕ) → k ≤ n → (at (bestCosts q n) k ≡ at (bestCosts q (suc n)) k) × (at (chosenStarts q n) k ≡ at (chosenStarts q (suc n)) k)
+  pub grown-same : (n k : ℕ) → k ≤ n → (at (bestCosts q n) k ≡ at (bestCosts q (suc n)) k) × (at (chosenStarts q n) k ≡ at (chosenStarts q (suc n)) k)
   grown-same n k l = (
     rw (costs-more n) (sym (List·getD-append (bestCosts q n) _ 0 k (omega (arith, costs-length n)))),
     rw (starts-more n) (sym (List·getD-append (chosenStarts q n) _ 0 k (omega (arith, starts-length n)))),

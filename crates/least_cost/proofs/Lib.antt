@@ -1,3 +1,6 @@
 pub mod Pricing
 pub mod Lengths
+pub mod Bounds
 pub mod Searching
+pub mod Stores
+pub mod Filling

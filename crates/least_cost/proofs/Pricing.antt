@@ -21,10 +21,10 @@ product : (a b x y : ℕ) → a ≤ x → b ≤ y → a * b ≤ x * y
 product a b x y h g = mul-le-mul h g
 
 module _ (P : Penalties) (T L : ℕ) where
-  over : Small P → L ≤ 2 ^ 30 → P .overflow * (L - T) ≤ 1000000 * 2 ^ 30
+  pub over : Small P → L ≤ 2 ^ 30 → P .overflow * (L - T) ≤ 1000000 * 2 ^ 30
   over h b = product (P .overflow) (L - T) 1000000 (2 ^ 30) (h .over) (omega arith)
 
-  square : T ≤ 65535 → (T - L) * (T - L) ≤ 65535 * 65535
+  pub square : T ≤ 65535 → (T - L) * (T - L) ≤ 65535 * 65535
   square b = product (T - L) (T - L) 65535 65535 (omega arith) (omega arith)
 
   part : Small P → L ≤ 2 ^ 30 → L * P .fraction ≤ 2 ^ 30 * 1000000

@@ -54,3 +54,12 @@ startPrice w s p P T C j i = at C i + priceAt w s p P (at T i) i j
 pub record Widest (ws : List ℕ) (r : ℕ) : Type 0 where
   pub all : (k : ℕ) → target ws k ≤ r
   pub low : r ≤ 65535
+
+-- The table can be filled: the scratch has a place for each position, and every target is that of the first line.
+pub record Fillable (w s p ws : List ℕ) (P : Penalties) (T C S : List ℕ) : Type 0 where
+  pub small : Small P
+  pub even : Even w s p
+  pub costs : length w < length C
+  pub starts : length w < length S
+  pub long : length T ≡ 4097
+  pub targets : (k : ℕ) → k < 4097 → at T k ≡ target ws 0

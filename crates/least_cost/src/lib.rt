@@ -12,7 +12,7 @@ ghost use Rattle.cheapest.specs.Table.{at};
 ghost use Rattle.least_cost.specs.Price.{target, widthPrice, endingPrice, linePrice};
 ghost use Rattle.least_cost.specs.Layout.{firstBig, admissionOf, linesOf};
 ghost use Rattle.least_cost.specs.Layout.{costsOf, startsOf, endsOfLines, laidOf, endsAfter, scratchAfter};
-ghost use Rattle.least_cost.specs.Search.{Small, Sized, Priceable, Even, Ready, Widest, startPrice};
+ghost use Rattle.least_cost.specs.Search.{Small, Sized, Priceable, Even, Ready, Widest, Fillable, startPrice};
 use fragments::Laid;
 use fragments::Tested;
 use units::COST_MOST;
@@ -207,5 +207,39 @@ fn line_number(starts: &[u16], position: FragmentIndex) -> usize
     } else {
         let start = fragments::number_at(starts, j);
         line_number(starts, FragmentIndex(start)) + 1
+    }
+}
+
+// Fills the table, position by position. `targets` holds the wanted width of the line that starts at each
+// position: all alike where there is at most one line width, and else by the position's line number, which
+// is computed once, when its start is chosen.
+fn fill_table(
+    words: &[u16],
+    whites: &[u16],
+    penalties: &[u16],
+    widths: &[u16],
+    p: Penalties,
+    targets: &mut [u16; 4097],
+    costs: &mut [u64],
+    starts: &mut [u16],
+)
+    requires { ⌜ Fillable (now words) (now whites) (now penalties) (now widths) p (now targets) (now costs) (now starts) ⌝ }
+    ensures { λ _. ⌜ (now (costs .exit) ≡ sets (now (costs .entry)) 0 (costsOf (now (words .entry)) (now (whites .entry)) (now (penalties .entry)) (now (widths .entry)) p))
+        × (now (starts .exit) ≡ sets (now (starts .entry)) 0 (startsOf (now (words .entry)) (now (whites .entry)) (now (penalties .entry)) (now (widths .entry)) p)) ⌝ }
+{
+    let n = words.len();
+    let widest = widest_of(widths);
+    costs[0] = 0;
+    starts[0] = 0;
+    let mut j = 0;
+    while j < n {
+        j += 1;
+        let best = best_start(words, whites, penalties, p, targets, widest, costs, j);
+        costs[j] = best.cost;
+        starts[j] = best.start.0 as u16;
+        if 1 < widths.len() {
+            let line = line_number(starts, FragmentIndex(j));
+            targets[j] = target_of(widths, line);
+        }
     }
 }
