@@ -6,7 +6,7 @@ use Prim.Native.Nat.{ℕ, zero, suc, _+_, _-_, _^_, _≤_, _<_, min, max}
 use native.Mathlib.Nat.{eq-or-lt-of-le}
 use native.Mathlib.Numerals.{add-one}
 use native.Mathlib.Omega.{arith}
-use lib.ListN.{length, getD, set, length-set}
+use lib.ListN.{length, getD, set, replicate, length-set, length-replicate, getD-replicate}
 use lib.Seq.{sets, set-set, getD-set-same, getD-set-other}
 use Rattle.fragments.specs.Lists.{widthOf}
 use Rattle.cheapest.specs.Least.{Cheapest}
@@ -17,7 +17,7 @@ use Rattle.cheapest.proofs.Table.{table-falls, costs-length, starts-length, tab
 use Rattle.least_cost.specs.declared.Penalties.{Penalties}
 use Rattle.least_cost.specs.Price.{target, priceAt, price}
 use Rattle.least_cost.specs.Layout.{costsOf, startsOf}
-use Rattle.least_cost.specs.Search.{Small, Even, Ready, Widest, Fillable, startPrice}
+use Rattle.least_cost.specs.Search.{Small, Even, Ready, Widest, Searchable, Fillable, startPrice}
 use Rattle.least_cost.proofs.Bounds.{Short, cost-cap}
 use Rattle.least_cost.proofs.Stores.{sets-snoc, sets-at, sets-first}
 
@@ -154,10 +154,10 @@ module _ (w s p ws : List ℕ) (P : Penalties) (widest : ℕ) (C₀ S₀ : List 
             getD-set-other T (j + 1) k t 0 n
             ∙ f .aimed .targets k h
             ∙ ap (λ (x : ℕ). target ws x)
-                (rw (add-one j)
-                (line-same (at (chosenStarts q j)) (at (chosenStarts q (suc j))) k
-                (λ i z m. table-falls q j (at (bestCosts q j)) (at (chosenStarts q j)) (table-computed q j) i z (omega arith))
-                (λ i m. grown-same q j i (omega arith) .1)))
+            (rw (add-one j)
+            (line-same (at (chosenStarts q j)) (at (chosenStarts q (suc j))) k
+            (λ i z m. table-falls q j (at (bestCosts q j)) (at (chosenStarts q j)) (table-computed q j) i z (omega arith))
+            (λ i m. grown-same q j i (omega arith) .1)))
 
 -- ---- the start and the end; E and F are the scratch lists before the first store
 
@@ -201,3 +201,14 @@ module _ (w s p ws : List ℕ) (P : Penalties) (widest : ℕ) (E F : List ℕ) w
       )
 
 pub ruleset filling = (filling-ready, filling-done, filling-one, filling-many, done-falls)
+
+-- Every target is that of the first line.
+pub filling-all : {w s p ws : List ℕ} {P : Penalties} {C S : List ℕ} {t : ℕ} → Searchable w s p P C S → t ≡ target ws 0 → Fillable w s p ws P (replicate 4097 t) C S
+filling-all {w} {s} {p} {ws} {P} {C} {S} {t} h e = record {
+  small = h .small;
+  even = h .even;
+  costs = h .costs;
+  starts = h .starts;
+  long = length-replicate 4097 t;
+  targets = λ k l. getD-replicate 4097 k t 0 l ∙ e;
+}

@@ -4,3 +4,5 @@ pub mod Bounds
 pub mod Searching
 pub mod Stores
 pub mod Filling
+pub mod Writing
+pub mod Admitting

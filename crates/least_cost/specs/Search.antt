@@ -4,6 +4,7 @@ use Prim.Native.Nat.{ℕ, _+_, _^_, _≤_, _<_}
 use mathlib.Core.List.{List}
 use lib.ListN.{length}
 use Rattle.units.specs.Limits.{penaltyMost, fragmentsMost}
+use Rattle.cheapest.specs.Lines.{Falls}
 use Rattle.cheapest.specs.Table.{at}
 use Rattle.least_cost.specs.declared.Penalties.{Penalties}
 use Rattle.least_cost.specs.Price.{target, priceAt}
@@ -55,6 +56,13 @@ pub record Widest (ws : List ℕ) (r : ℕ) : Type 0 where
   pub all : (k : ℕ) → target ws k ≤ r
   pub low : r ≤ 65535
 
+-- The search can be begun.
+pub record Searchable (w s p : List ℕ) (P : Penalties) (C S : List ℕ) : Type 0 where
+  pub small : Small P
+  pub even : Even w s p
+  pub costs : length w < length C
+  pub starts : length w < length S
+
 -- The table can be filled: the scratch has a place for each position, and every target is that of the first line.
 pub record Fillable (w s p ws : List ℕ) (P : Penalties) (T C S : List ℕ) : Type 0 where
   pub small : Small P
@@ -63,3 +71,11 @@ pub record Fillable (w s p ws : List ℕ) (P : Penalties) (T C S : List ℕ) : T
   pub starts : length w < length S
   pub long : length T ≡ 4097
   pub targets : (k : ℕ) → k < 4097 → at T k ≡ target ws 0
+
+-- The ends of n fragments can be written: every chosen start is smaller, and there is a place for each line.
+pub record Writable (S : List ℕ) (n : ℕ) (E : List ℕ) : Type 0 where
+  pub starts : n < length S
+  pub falls : Falls (at S) n
+  pub few : n ≤ fragmentsMost
+  pub room : n ≤ length E
+  pub place : 0 < length E

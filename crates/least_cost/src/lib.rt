@@ -12,13 +12,16 @@ ghost use Rattle.cheapest.specs.Table.{at};
 ghost use Rattle.least_cost.specs.Price.{target, widthPrice, endingPrice, linePrice};
 ghost use Rattle.least_cost.specs.Layout.{firstBig, admissionOf, linesOf};
 ghost use Rattle.least_cost.specs.Layout.{costsOf, startsOf, endsOfLines, laidOf, endsAfter, scratchAfter};
-ghost use Rattle.least_cost.specs.Search.{Small, Sized, Priceable, Even, Ready, Widest, Fillable, startPrice};
+ghost use Rattle.least_cost.specs.Search.{Small, Sized, Priceable, Even, Ready, Widest, Searchable, Fillable, Writable, startPrice};
 use fragments::Laid;
 use fragments::Tested;
 use units::COST_MOST;
 use units::FragmentIndex;
 use units::PENALTY_MOST;
 use units::WIDTH_MOST;
+
+// The positions before, between and after the most fragments.
+const POSITIONS: usize = 4097;
 
 // The five penalties, in document 01's order.
 pub struct Penalties {
@@ -138,7 +141,7 @@ fn widest_of(widths: &[u16]) -> u64
 // What position j costs if its last line starts at i and is `len` wide.
 fn start_price(
     p: Penalties,
-    targets: &[u16; 4097],
+    targets: &[u16; POSITIONS],
     costs: &[u64],
     len: u64,
     penalty: usize,
@@ -160,7 +163,7 @@ fn best_start(
     whites: &[u16],
     penalties: &[u16],
     p: Penalties,
-    targets: &[u16; 4097],
+    targets: &[u16; POSITIONS],
     widest: u64,
     costs: &[u64],
     j: usize,
@@ -219,7 +222,7 @@ fn fill_table(
     penalties: &[u16],
     widths: &[u16],
     p: Penalties,
-    targets: &mut [u16; 4097],
+    targets: &mut [u16; POSITIONS],
     costs: &mut [u64],
     starts: &mut [u16],
 )
@@ -240,6 +243,120 @@ fn fill_table(
         if 1 < widths.len() {
             let line = line_number(starts, FragmentIndex(j));
             targets[j] = target_of(widths, line);
+        }
+    }
+}
+
+// Fills the table, with room of its own for the targets.
+fn fill(
+    words: &[u16],
+    whites: &[u16],
+    penalties: &[u16],
+    widths: &[u16],
+    p: Penalties,
+    costs: &mut [u64],
+    starts: &mut [u16],
+)
+    requires { ⌜ Searchable (now words) (now whites) (now penalties) p (now costs) (now starts) ⌝ }
+    ensures { λ _. ⌜ (now (costs .exit) ≡ sets (now (costs .entry)) 0 (costsOf (now (words .entry)) (now (whites .entry)) (now (penalties .entry)) (now (widths .entry)) p))
+        × (now (starts .exit) ≡ sets (now (starts .entry)) 0 (startsOf (now (words .entry)) (now (whites .entry)) (now (penalties .entry)) (now (widths .entry)) p)) ⌝ }
+{
+    let first = target_of(widths, 0);
+    let mut targets = [first; POSITIONS];
+    fill_table(
+        words,
+        whites,
+        penalties,
+        widths,
+        p,
+        &mut targets,
+        costs,
+        starts,
+    );
+}
+
+// Writes the ends of the lines of n fragments, from the last to the first, and answers how many there
+// are; no fragments have one line, with end 0.
+fn write_ends(starts: &[u16], n: usize, ends: &mut [u16]) -> usize
+    requires { ⌜ Writable (now starts) n (now ends) ⌝ }
+    ensures { λ r. ⌜ (r ≡ length (linesOf (at (now (starts .entry))) n)) × (now (ends .exit) ≡ sets (now (ends .entry)) 0 (linesOf (at (now (starts .entry))) n)) ⌝ }
+{
+    if n == 0 {
+        fragments::put_end(ends, 0, FragmentIndex(0));
+        return 1;
+    }
+    let lines = line_number(starts, FragmentIndex(n));
+    let mut line = lines;
+    let mut end = n;
+    while 0 < end {
+        line -= 1;
+        fragments::put_end(ends, line, FragmentIndex(end));
+        end = fragments::number_at(starts, end);
+    }
+    lines
+}
+
+// Sets the scratch of n fragments to zero.
+fn clear(costs: &mut [u64], starts: &mut [u16], n: usize)
+    requires { ⌜ (n < length (now costs)) × (n < length (now starts)) ⌝ }
+    ensures { λ _. ⌜ (now (costs .exit) ≡ sets (now (costs .entry)) 0 (replicate (n + 1) 0)) × (now (starts .exit) ≡ sets (now (starts .entry)) 0 (replicate (n + 1) 0)) ⌝ }
+{
+    let mut k = 0;
+    while k <= n {
+        costs[k] = 0;
+        starts[k] = 0;
+        k += 1;
+    }
+}
+
+// The index of the first penalty above 1,000,000, or 5.
+fn first_big(p: Penalties) -> usize
+    ensures { λ r. ⌜ r ≡ firstBig p ⌝ }
+{
+    let five = [p.line, p.overflow, p.fraction, p.short, p.hyphen];
+    let mut i = 0;
+    while i < 5 {
+        if PENALTY_MOST < five[i] {
+            return i;
+        }
+        i += 1;
+    }
+    i
+}
+
+// Whether the search is begun: by what the lists were found to be, the index of the first big penalty, the
+// number of fragments, and the places of ends, costs and starts.
+fn admit(
+    tested: Tested,
+    big: usize,
+    n: usize,
+    ends: usize,
+    costs: usize,
+    starts: usize,
+) -> Admission
+    requires { ⌜ n < 2 ^ 63 ⌝ }
+    ensures { λ r. ⌜ r ≡ admissionOf tested big n ends costs starts ⌝ }
+{
+    match tested {
+        Tested::Unequal => Admission::Shut(Laid::Unequal),
+        Tested::TooMany => Admission::Shut(Laid::TooMany),
+        Tested::TooWide(i) => Admission::Shut(Laid::TooWide(i)),
+        Tested::Good => {
+            if big < 5 {
+                return Admission::Shut(Laid::BigPenalty(big));
+            }
+            let needed = fragments::places_needed(n);
+            if ends < needed {
+                return Admission::Shut(Laid::NoRoom(needed));
+            }
+            let places = n + 1;
+            if costs < places {
+                return Admission::Shut(Laid::NoRoom(places));
+            }
+            if starts < places {
+                return Admission::Shut(Laid::NoRoom(places));
+            }
+            Admission::Open
         }
     }
 }
