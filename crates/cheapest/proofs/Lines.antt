@@ -46,17 +46,23 @@ line-le s j = go j j
     go (suc n) zero = omega arith
     go (suc n) (suc j) = omega (arith, go n (s (suc j)))
 
-endsIn-same : (s : ℕ → ℕ) (n m j : ℕ) → Falls s j → j ≤ n → j ≤ m → endsIn s n j ≡ endsIn s m j
+endsIn-same : (s t : ℕ → ℕ) (n m j : ℕ) → Falls s j → ((k : ℕ) → k ≤ j → s k ≡ t k) → j ≤ n → j ≤ m → endsIn s n j ≡ endsIn t m j
 unfolding endsIn
-endsIn-same s zero zero j f a b = refl
-endsIn-same s zero (suc m) zero f a b = refl
-endsIn-same s zero (suc m) (suc j) f a b = absurd (omega arith)
-endsIn-same s (suc n) zero zero f a b = refl
-endsIn-same s (suc n) zero (suc j) f a b = absurd (omega arith)
-endsIn-same s (suc n) (suc m) zero f a b = refl
-endsIn-same s (suc n) (suc m) (suc j) f a b =
+endsIn-same s t zero zero j f e a b = refl
+endsIn-same s t zero (suc m) zero f e a b = refl
+endsIn-same s t zero (suc m) (suc j) f e a b = absurd (omega arith)
+endsIn-same s t (suc n) zero zero f e a b = refl
+endsIn-same s t (suc n) zero (suc j) f e a b = absurd (omega arith)
+endsIn-same s t (suc n) (suc m) zero f e a b = refl
+endsIn-same s t (suc n) (suc m) (suc j) f e a b =
     let l : s (suc j) < suc j = f (suc j) (omega arith) (omega arith) in
-    ap (λ (x : List ℕ). x ++ (suc j ∷ [])) (endsIn-same s n m (s (suc j)) (λ k p h. f k p (omega arith)) (omega arith) (omega arith))
+    ap (λ (x : List ℕ). x ++ (suc j ∷ []))
+    (endsIn-same s t n m (s (suc j)) (λ k p h. f k p (omega arith)) (λ k h. e k (omega arith)) (omega arith) (omega arith)
+    ∙ ap (λ x. endsIn t m x) (e (suc j) (omega arith)))
+
+pub ends-same : (s t : ℕ → ℕ) (j : ℕ) → Falls s j → ((k : ℕ) → k ≤ j → s k ≡ t k) → endsOf s j ≡ endsOf t j
+unfolding endsOf
+ends-same s t j f e = endsIn-same s t j j j f e (omega arith) (omega arith)
 
 pub ends-zero : (s : ℕ → ℕ) → endsOf s 0 ≡ []
 unfolding endsOf endsIn
@@ -67,7 +73,7 @@ unfolding endsOf endsIn
 ends-next s zero f p = absurd (omega arith)
 ends-next s (suc j) f p =
     let l : s (suc j) < suc j = f (suc j) p (omega arith) in
-    ap (λ (x : List ℕ). x ++ (suc j ∷ [])) (endsIn-same s j (s (suc j)) (s (suc j)) (λ k p h. f k p (omega arith)) (omega arith) (omega arith))
+    ap (λ (x : List ℕ). x ++ (suc j ∷ [])) (endsIn-same s s j (s (suc j)) (s (suc j)) (λ k p h. f k p (omega arith)) (λ k h. refl) (omega arith) (omega arith))
 
 -- There are as many ends as the line number says.
 pub ends-length : (s : ℕ → ℕ) (j : ℕ) → length (endsOf s j) ≡ lineOf s j

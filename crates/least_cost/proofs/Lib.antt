@@ -6,3 +6,4 @@ pub mod Stores
 pub mod Filling
 pub mod Writing
 pub mod Admitting
+pub mod Laying

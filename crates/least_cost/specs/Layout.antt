@@ -1,4 +1,5 @@
 -- Document 01, "Layouts" and "Numbers that come back": what the least-cost entry answers, and what its three lists hold after it.
+use mathlib.Core.Path.{_≡_}
 use Prim.Native.Nat.{ℕ, zero, suc, _+_, min, max}
 use mathlib.Core.List.{List, [], _∷_}
 use lib.Dec.{ltb}
@@ -87,3 +88,10 @@ module _ (w s p ws : List ℕ) (P : Penalties) where
       (admissionOf (testedOf (length w) (length s) (length p) (firstAbove widthMost ws) (length ws)) (firstBig P) (length w) ends costs starts)
       (at costsOf (length w))
       (length endsOfLines)
+
+-- What the entry promises: its answer r, and the lists of ends, costs and starts before and after it.
+pub record Laying (w s p ws : List ℕ) (P : Penalties) (E C S : List ℕ) (r : Laid) (E′ C′ S′ : List ℕ) : Type 0 where
+  pub answer : r ≡ laidOf w s p ws P (length E) (length C) (length S)
+  pub ends : E′ ≡ endsAfter r (endsOfLines w s p ws P) E
+  pub costs : C′ ≡ scratchAfter r (costsOf w s p ws P) C
+  pub starts : S′ ≡ scratchAfter r (startsOf w s p ws P) S

@@ -2,12 +2,18 @@
 use mathlib.Core.Path.{_≡_}
 use Prim.Native.Nat.{ℕ, _+_, _^_, _≤_, _<_}
 use mathlib.Core.List.{List}
-use lib.ListN.{length}
-use Rattle.units.specs.Limits.{penaltyMost, fragmentsMost}
+use lib.Dec.{ltb}
+use lib.ListN.{length, replicate}
+use lib.Seq.{sets}
+use Rattle.units.specs.Limits.{penaltyMost, fragmentsMost, costMost}
+use Rattle.logic.specs.Choice.{pick}
+use Rattle.fragments.specs.declared.Laid.{Laid}
+use Rattle.fragments.specs.declared.Laid.the-variants.{Lines, Unequal, TooMany, TooWide, BigPenalty, NoRoom, TooDear}
 use Rattle.cheapest.specs.Lines.{Falls}
 use Rattle.cheapest.specs.Table.{at}
 use Rattle.least_cost.specs.declared.Penalties.{Penalties}
 use Rattle.least_cost.specs.Price.{target, priceAt}
+use Rattle.least_cost.specs.Layout.{linesOf, endsAfter}
 
 -- The penalties are within bounds.
 pub record Small (P : Penalties) : Type 0 where
@@ -79,3 +85,20 @@ pub record Writable (S : List ℕ) (n : ℕ) (E : List ℕ) : Type 0 where
   pub few : n ≤ fragmentsMost
   pub room : n ≤ length E
   pub place : 0 < length E
+
+-- What is left of a scratch list after the last step, by its answer: zero up to n where the cost is too high.
+abbrev pub clearedBy : Laid → ℕ → List ℕ → List ℕ
+clearedBy (Lines k) n l = l
+clearedBy Unequal n l = l
+clearedBy TooMany n l = l
+clearedBy (TooWide i) n l = l
+clearedBy (BigPenalty i) n l = l
+clearedBy (NoRoom k) n l = l
+clearedBy TooDear n l = sets l 0 (replicate (n + 1) 0)
+
+-- The last step: its answer r, and the lists of ends, costs and starts before and after it.
+pub record Finished (n : ℕ) (E C S : List ℕ) (r : Laid) (E′ C′ S′ : List ℕ) : Type 0 where
+  pub answer : r ≡ pick (ltb costMost (at C n)) TooDear (Lines (length (linesOf (at S) n)))
+  pub ends : E′ ≡ endsAfter r (linesOf (at S) n) E
+  pub costs : C′ ≡ clearedBy r n C
+  pub starts : S′ ≡ clearedBy r n S

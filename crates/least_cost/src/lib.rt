@@ -10,9 +10,9 @@ ghost use Rattle.cheapest.specs.Least.{Cheapest};
 ghost use Rattle.cheapest.specs.Lines.{Falls, lineOf};
 ghost use Rattle.cheapest.specs.Table.{at};
 ghost use Rattle.least_cost.specs.Price.{target, widthPrice, endingPrice, linePrice};
-ghost use Rattle.least_cost.specs.Layout.{firstBig, admissionOf, linesOf};
-ghost use Rattle.least_cost.specs.Layout.{costsOf, startsOf, endsOfLines, laidOf, endsAfter, scratchAfter};
+ghost use Rattle.least_cost.specs.Layout.{firstBig, admissionOf, linesOf, costsOf, startsOf, Laying};
 ghost use Rattle.least_cost.specs.Search.{Small, Sized, Priceable, Even, Ready, Widest, Searchable, Fillable, Writable, startPrice};
+ghost use Rattle.least_cost.specs.Search.{Finished};
 use fragments::Laid;
 use fragments::Tested;
 use units::COST_MOST;
@@ -357,6 +357,49 @@ fn admit(
                 return Admission::Shut(Laid::NoRoom(places));
             }
             Admission::Open
+        }
+    }
+}
+
+// The last step, after the search: a cost above 2^53 is refused and the scratch set to zero; else the
+// ends are written.
+fn finish(n: usize, ends: &mut [u16], costs: &mut [u64], starts: &mut [u16]) -> Laid
+    requires { ⌜ Writable (now starts) n (now ends) × (n < length (now costs)) ⌝ }
+    ensures { λ r. ⌜ Finished n (now (ends .entry)) (now (costs .entry)) (now (starts .entry)) r (now (ends .exit)) (now (costs .exit)) (now (starts .exit)) ⌝ }
+{
+    if COST_MOST < costs[n] {
+        clear(costs, starts, n);
+        return Laid::TooDear;
+    }
+    let lines = write_ends(starts, n, ends);
+    Laid::Lines(lines)
+}
+
+// Lays the fragments out in lines at the least cost, and answers how many lines there are, or why none
+// were laid out. `ends` holds the end of each line; `costs` and `starts` are scratch and hold the best cost
+// and the chosen start of each position.
+pub fn wrap_optimal_fit(
+    words: &[u16],
+    whites: &[u16],
+    penalties: &[u16],
+    widths: &[u16],
+    p: Penalties,
+    ends: &mut [u16],
+    costs: &mut [u64],
+    starts: &mut [u16],
+) -> Laid
+    ensures { λ r. ⌜ Laying (now (words .entry)) (now (whites .entry)) (now (penalties .entry)) (now (widths .entry)) p (now (ends .entry)) (now (costs .entry)) (now (starts .entry))
+        r (now (ends .exit)) (now (costs .exit)) (now (starts .exit)) ⌝ }
+{
+    let n = words.len();
+    let wide = fragments::first_above(widths, WIDTH_MOST as usize);
+    let tested = fragments::test_lists(n, whites.len(), penalties.len(), wide, widths.len());
+    let big = first_big(p);
+    match admit(tested, big, n, ends.len(), costs.len(), starts.len()) {
+        Admission::Shut(why) => why,
+        Admission::Open => {
+            fill(words, whites, penalties, widths, p, costs, starts);
+            finish(n, ends, costs, starts)
         }
     }
 }
