@@ -31,7 +31,7 @@ use Rattle.least_cost.proofs.Stores.{sets-at, sets-over}
 
 -- ---- what is known where the search is begun
 
-never : {A : Type 0} → _≡_ {A = ℕ} 0 1 → A
+pub never : {A : Type 0} → _≡_ {A = ℕ} 0 1 → A
 never e = absurd (omega arith)
 
 pub record Opened (t : Tested) (big n ends costs starts : ℕ) : Type 0 where
@@ -56,7 +56,7 @@ open-says tested.Good big n ends costs starts e =
     (λ d. let e₃ : Open ≡ Shut (NoRoom (n + 1)) = e ∙ rw (a, b, d) in never (cc))
     (λ d. record { good = refl; cheap = ltb-false big 5 a; room = ltb-false ends (max 1 n) b; scratch = ltb-false (min costs starts) (n + 1) d })))
 
-good-says : (n ns np wide nw : ℕ) → tested.Good ≡ testedOf n ns np wide nw → (ns ≡ n) × (np ≡ n) × (n ≤ 4096)
+pub good-says : (n ns np wide nw : ℕ) → tested.Good ≡ testedOf n ns np wide nw → (ns ≡ n) × (np ≡ n) × (n ≤ 4096)
 unfolding testedOf
 good-says n ns np wide nw e =
     both (eqb ns n)
@@ -69,7 +69,7 @@ good-says n ns np wide nw e =
     (λ b. let e₂ : tested.Good ≡ tested.Unequal = e ∙ rw (a, b) in never (cc)))
     (λ a. let e₃ : tested.Good ≡ tested.Unequal = e ∙ rw a in never (cc))
 
-small-says : (P : Penalties) → 5 ≤ firstBig P → Small P
+pub small-says : (P : Penalties) → 5 ≤ firstBig P → Small P
 unfolding firstBig firstAbove
 small-says P h = record { line = at-most 0 (omega arith); over = at-most 1 (omega arith); part = at-most 2 (omega arith); last = at-most 3 (omega arith); dash = at-most 4 (omega arith) }
   where

@@ -7,3 +7,4 @@ pub mod Filling
 pub mod Writing
 pub mod Admitting
 pub mod Laying
+pub mod Laws
