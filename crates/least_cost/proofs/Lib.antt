@@ -8,3 +8,4 @@ pub mod Writing
 pub mod Admitting
 pub mod Laying
 pub mod Laws
+pub mod Examples
