@@ -1,0 +1,4 @@
+pub mod Least
+pub mod Lines
+pub mod Table
+pub mod Laws

@@ -1,0 +1,168 @@
+-- The search of one position, from its last start downwards: what holds at the head of the loop, and a law for each way into, round and out of it.
+use mathlib.Core.Path.{_≡_, refl, sym, ap, _∙_, subst}
+use mathlib.Core.Logic.{⊎-elim}
+use mathlib.Core.List.{List, [], _∷_}
+use Prim.Native.Nat.{ℕ, zero, suc, _+_, _-_, _*_, _^_, _≤_, _<_}
+use native.Mathlib.Nat.{eq-or-lt-of-le, mul-le-mul, le-refl}
+use native.Mathlib.Decide.{decLt}
+use native.Mathlib.Omega.{arith}
+use lib.Dec.{ltb}
+use lib.ListN.{length, getD}
+use borrow.Author.Tests.{ltb-true, ltb-false}
+use Rattle.logic.proofs.Choice.{both}
+use Rattle.cheapest.specs.Least.{Cheapest}
+use Rattle.cheapest.specs.Table.{at}
+use Rattle.least_cost.specs.declared.Penalties.{Penalties}
+use Rattle.least_cost.specs.Price.{lineLen, widthPrice, linePrice, priceAt}
+use Rattle.least_cost.specs.Search.{Small, Sized, Priceable, Even, Ready, startPrice}
+use Rattle.least_cost.proofs.Lengths.{len-one, len-more, len-grows}
+
+-- No price is below its overflow.
+pub price-low : (P : Penalties) (T L h i j n : ℕ) → P .line + P .overflow * (L - T) ≤ linePrice P T L h i j n
+unfolding linePrice widthPrice
+price-low P T L h i j n =
+    both (ltb T L)
+    (λ t. rw t (omega arith))
+    (λ t.
+    let z : L - T ≡ 0 = omega (arith, ltb-false T L t) in
+    rw z (omega arith))
+
+module _ (w s p : List ℕ) (P : Penalties) (T C : List ℕ) (widest j : ℕ) where
+  -- Of the starts from i on, `from` is the first at which j is cheapest, and `best` is what it costs; the line from i is `len` wide.
+  -- The last penalty width is `tail`.
+  pub record Pulled (tail len best from i : ℕ) : Type 0 where
+    pub ready : Ready w s p P T widest C j
+    pub last : tail ≡ getD p (j - 1) 0
+    pub below : i < j
+    pub chosen-low : i ≤ from
+    pub chosen-high : from < j
+    pub wide : len ≡ lineLen w s p i j
+    pub cap : len ≤ 131070 * (j - i)
+    pub small : best ≤ 2 ^ 51
+    pub value : best ≡ startPrice w s p P T C j from
+    pub least : (k : ℕ) → i ≤ k → k < j → best ≤ startPrice w s p P T C j k
+    pub first : (k : ℕ) → i ≤ k → k < from → best < startPrice w s p P T C j k
+
+  -- The price that the code finds is that of the start.
+  found : (i L h r : ℕ) → L ≡ lineLen w s p i j → h ≡ getD p (j - 1) 0 → r ≡ at C i + linePrice P (at T i) L h i j (length w) → r ≡ startPrice w s p P T C j i
+  unfolding startPrice priceAt
+  found i L h r el eh er = er ∙ rw (el, eh)
+
+  -- A start before j can be priced.
+  pub start-ready : {L i : ℕ} → Ready w s p P T widest C j → L ≤ 2 ^ 30 → i < j → Priceable P T C L i
+  start-ready {L} {i} ready l b = record {
+    sized = record {
+      small = ready .small;
+      target = omega (arith, ready .narrow i b, ready .most);
+      len = l;
+      from = omega (arith, ready .within, ready .even .few);
+    };
+    room = omega (arith, ready .room);
+    cheap = ready .cheap i b;
+  }
+
+  -- The last start alone.
+  pub pulled-start : {a r h : ℕ} → Ready w s p P T widest C j → a ≡ getD w (j - 1) 0 + getD p (j - 1) 0 → a ≤ 131070 → r ≡ at C (j - 1) + linePrice P (at T (j - 1)) a h (j - 1) j (length w) → r ≤ 2 ^ 51 → h ≡ getD p (j - 1) 0
+      → Pulled h a r (j - 1) (j - 1)
+  pulled-start {a} {r} {h} ready ea la er lr eh =
+      let z : suc (j - 1) ≡ j = omega (arith, ready .above) in
+      let l : a ≡ lineLen w s p (j - 1) j = ea ∙ sym (rw z at (len-one w s p (ready .even) (j - 1) (omega (arith, ready .within)))) in
+      let f = found (j - 1) a h r l eh er in
+      record {
+        ready = ready;
+        last = eh;
+        below = omega arith;
+        chosen-low = omega arith;
+        chosen-high = omega arith;
+        wide = l;
+        cap = omega arith;
+        small = lr;
+        value = f;
+        least = λ k b h. let y : k ≡ j - 1 = omega arith in rw y (omega arith);
+        first = λ k b h. absurd (omega arith);
+      }
+
+  -- One start lower: i - 1, whose fragment is a wide with its whitespace.
+  module _ {tail len best from i a : ℕ} (h : Pulled tail len best from i) (up : 0 < i) (ea : a ≡ getD w (i - 1) 0 + getD s (i - 1) 0) (la : a ≤ 131070) where
+    longer : len + a ≡ lineLen w s p (i - 1) j
+    longer =
+        let z : suc (i - 1) ≡ i = omega arith in
+        omega (arith, h .wide, rw z at (len-more w s p (h .ready .even) (i - 1) j (omega (arith, h .below)) (h .ready .within)))
+
+    pub pulled-fits : len + a ≤ 2 ^ 30
+    pulled-fits = omega (arith, h .cap, h .below, h .ready .within, h .ready .even .few)
+
+    -- Each start from i - 1 on is i - 1 itself, or was there before.
+    lower : (Q : ℕ → Type 0) → Q (i - 1) → ((k : ℕ) → i ≤ k → Q k) → (k : ℕ) → i - 1 ≤ k → Q k
+    lower Q q f k b = ⊎-elim
+        (λ (z : i - 1 ≡ k). subst Q z q)
+        (λ (m : i - 1 < k). f k (omega arith))
+        (eq-or-lt-of-le b)
+
+    -- It is as cheap as the best so far, or cheaper: it is chosen.
+    pub pulled-win : {r : ℕ} → r ≡ at C (i - 1) + linePrice P (at T (i - 1)) (len + a) tail (i - 1) j (length w) → r ≤ 2 ^ 51 → r ≤ best
+        → Pulled tail (len + a) r (i - 1) (i - 1)
+    pulled-win {r} er lr le =
+        let f = found (i - 1) (len + a) tail r longer (h .last) er in
+        record {
+          ready = h .ready;
+          last = h .last;
+          below = omega (arith, h .below);
+          chosen-low = omega arith;
+          chosen-high = omega (arith, h .below);
+          wide = longer;
+          cap = omega (arith, h .cap, h .below);
+          small = lr;
+          value = f;
+          least = lower (λ k. k < j → r ≤ startPrice w s p P T C j k) (λ b. omega arith) (λ k b m. omega (arith, h .least k b m));
+          first = λ k b m. absurd (omega arith);
+        }
+
+    -- It is dearer: the choice stands.
+    pub pulled-lose : {r : ℕ} → r ≡ at C (i - 1) + linePrice P (at T (i - 1)) (len + a) tail (i - 1) j (length w) → best < r → Pulled tail (len + a) best from (i - 1)
+    pulled-lose {r} er lt =
+        let f = found (i - 1) (len + a) tail r longer (h .last) er in
+        record {
+          ready = h .ready;
+          last = h .last;
+          below = omega (arith, h .below);
+          chosen-low = omega (arith, h .chosen-low);
+          chosen-high = h .chosen-high;
+          wide = longer;
+          cap = omega (arith, h .cap, h .below);
+          small = h .small;
+          value = h .value;
+          least = lower (λ k. k < j → best ≤ startPrice w s p P T C j k) (λ b. omega arith) (λ k b m. h .least k b m);
+          first = lower (λ k. k < from → best < startPrice w s p P T C j k) (λ b. omega arith) (λ k b m. h .first k b m);
+        }
+
+    -- The overflow alone is dearer than the best: so is every start from here down.
+    dearer : best < P .line + P .overflow * (len + a - widest) → (k : ℕ) → k ≤ i - 1 → best < startPrice w s p P T C j k
+    unfolding startPrice priceAt
+    dearer cut k b =
+        let g : lineLen w s p (i - 1) j ≤ lineLen w s p k j = len-grows w s p (h .ready .even) k (i - 1) j b (omega (arith, h .below)) (h .ready .within) in
+        let t : at T k ≤ widest = h .ready .narrow k (omega (arith, h .below)) in
+        let x : len + a - widest ≤ lineLen w s p k j - at T k = omega (arith, longer) in
+        let m : P .overflow * (len + a - widest) ≤ P .overflow * (lineLen w s p k j - at T k) = mul-le-mul (le-refl (P .overflow)) x in
+        omega (arith, price-low P (at T k) (lineLen w s p k j) (getD p (j - 1) 0) k j (length w))
+
+    pub pulled-cut : {b : ℕ} → b ≡ P .line + P .overflow * (len + a - widest) → best < b → Cheapest (startPrice w s p P T C j) j from best
+    pulled-cut {b} eb lt =
+        let d = dearer (omega arith) in
+        record {
+          below = h .chosen-high;
+          value = h .value;
+          least = λ k m. elim (decLt k i) [ yes l ↦ omega (arith, d k (omega arith)) | no l ↦ h .least k (omega arith) m ];
+          first = λ k m. elim (decLt k i) [ yes l ↦ d k (omega arith) | no l ↦ h .first k (omega arith) m ];
+        }
+
+  -- No start is left.
+  pub pulled-end : {tail len best from i : ℕ} → Pulled tail len best from i → i ≤ 0 → Cheapest (startPrice w s p P T C j) j from best
+  pulled-end h z = record {
+    below = h .chosen-high;
+    value = h .value;
+    least = λ k m. h .least k (omega arith) m;
+    first = λ k m. h .first k (omega arith) m;
+  }
+
+pub ruleset pulling = (start-ready, pulled-start, pulled-fits, pulled-win, pulled-lose, pulled-cut, pulled-end)

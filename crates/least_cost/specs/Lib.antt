@@ -1,0 +1,3 @@
+pub mod Price
+pub mod Layout
+pub mod Search
