@@ -18,26 +18,67 @@ use plain::{
 /// Layouts up to this size are tried in every run.
 const SIZE: usize = 16;
 
-/// Ends and cost of a layout.
-type Laid<'a> = (&'a [usize], u64);
+/// A layout by the ends of its lines, and its cost.
+type Laid = (&'static [usize], u64);
 
-/// Each kind with its smallest input, its size, and what document 01 and the crate make of it.
+/// An input, its size, what document 01 makes of it, and what another does.
+struct Known {
+    size: usize,
+    fragments: &'static [Fragment],
+    line_widths: &'static [u16],
+    ours: Laid,
+    other: Laid,
+}
+
+/// Each kind with its smallest input. The other layout is the crate's.
 #[rustfmt::skip]
-const SMALLEST: [(Difference, usize, &[Fragment], &[u16], Laid, Laid); 5] = [
-    (Difference::CrateDearer, 12, &[[0, 1, 0], [0, 0, 1], [0, 0, 0]], &[0], (&[3], 1000), (&[1, 3], 2001)),
-    (Difference::Tie, 16, &[[1, 0, 0], [0, 1, 0], [0, 0, 1], [0, 0, 0]], &[0], (&[1, 4], 2000), (&[2, 4], 2000)),
-    (Difference::SeveralCrateDearer, 15, &[[0, 0, 0], [0, 0, 2], [0, 0, 0]], &[0, 2], (&[3], 1000), (&[1, 3], 2001)),
-    (Difference::SeveralTie, 19, &[[0, 0, 0], [0, 1, 0], [1, 0, 1], [0, 0, 0]], &[0, 2], (&[1, 4], 2001), (&[2, 4], 2001)),
-    (Difference::SeveralOursDearer, 21, &[[0, 1, 0], [0, 0, 1], [0, 0, 0], [0, 0, 2]], &[0, 0, 2], (&[1, 2, 4], 3051), (&[1, 3, 4], 3027)),
+const SMALLEST: [(Difference, Known); 5] = [
+    (Difference::CrateDearer, Known {
+        size: 12, fragments: &[[0, 1, 0], [0, 0, 1], [0, 0, 0]], line_widths: &[0],
+        ours: (&[3], 1000), other: (&[1, 3], 2001),
+    }),
+    (Difference::Tie, Known {
+        size: 16, fragments: &[[1, 0, 0], [0, 1, 0], [0, 0, 1], [0, 0, 0]], line_widths: &[0],
+        ours: (&[1, 4], 2000), other: (&[2, 4], 2000),
+    }),
+    (Difference::SeveralCrateDearer, Known {
+        size: 15, fragments: &[[0, 0, 0], [0, 0, 2], [0, 0, 0]], line_widths: &[0, 2],
+        ours: (&[3], 1000), other: (&[1, 3], 2001),
+    }),
+    (Difference::SeveralTie, Known {
+        size: 19, fragments: &[[0, 0, 0], [0, 1, 0], [1, 0, 1], [0, 0, 0]], line_widths: &[0, 2],
+        ours: (&[1, 4], 2001), other: (&[2, 4], 2001),
+    }),
+    (Difference::SeveralOursDearer, Known {
+        size: 21, fragments: &[[0, 1, 0], [0, 0, 1], [0, 0, 0], [0, 0, 2]], line_widths: &[0, 0, 2],
+        ours: (&[1, 2, 4], 3051), other: (&[1, 3, 4], 3027),
+    }),
 ];
 
-/// The smallest input for which document 01's least cost is not the least of all layouts, with its size, what
-/// document 01 makes of it, and the cheapest.
-const NOT_LEAST: (usize, &[Fragment], &[u16], Laid, Laid) =
-    (16, &[[0, 0, 0], [0, 0, 0], [2, 0, 0]], &[0, 0, 2], (&[3], 3500), (&[1, 2, 3], 3002));
+/// The smallest input for which document 01's least cost is not the least of all layouts. The other layout
+/// is the cheapest; the crate's is document 01's.
+#[rustfmt::skip]
+const NOT_LEAST: Known = Known {
+    size: 16, fragments: &[[0, 0, 0], [0, 0, 0], [2, 0, 0]], line_widths: &[0, 0, 2],
+    ours: (&[3], 3500), other: (&[1, 2, 3], 3002),
+};
 
-fn layout(fragments: &[Fragment], line_widths: &[u16]) -> Layout {
-    Layout { fragments: fragments.to_vec(), line_widths: line_widths.to_vec(), penalties: DEFAULT_PENALTIES }
+/// A layout with three widths and no penalty widths that differs. It is not known to be the smallest.
+#[rustfmt::skip]
+const NO_PENALTY_WIDTHS: (Difference, Known) = (Difference::SeveralCrateDearer, Known {
+    size: 110,
+    fragments: &[[3, 0, 0], [4, 1, 0], [2, 1, 0], [4, 1, 0], [2, 0, 0], [0, 0, 0], [0, 0, 0]], line_widths: &[15, 53, 0],
+    ours: (&[4, 7], 2000), other: (&[3, 7], 2025),
+});
+
+impl Known {
+    fn layout(&self) -> Layout {
+        Layout {
+            fragments: self.fragments.to_vec(),
+            line_widths: self.line_widths.to_vec(),
+            penalties: DEFAULT_PENALTIES,
+        }
+    }
 }
 
 fn size(layout: &Layout) -> usize {
@@ -46,27 +87,26 @@ fn size(layout: &Layout) -> usize {
 
 #[test]
 fn each_kind_has_its_input() {
-    for (kind, strokes, fragments, line_widths, ours, theirs) in SMALLEST {
-        let layout = layout(fragments, line_widths);
+    for (kind, known) in SMALLEST.into_iter().chain([NO_PENALTY_WIDTHS]) {
+        let layout = known.layout();
         let least = least_cost(&layout);
         let ends = optimal_fit_by_the_crate(&layout);
-        assert_eq!(size(&layout), strokes);
+        assert_eq!(size(&layout), known.size);
         assert_eq!(difference(&layout, &least), Ok(Some(kind)));
-        assert_eq!((&least.ends[..], least.cost()), ours);
-        assert_eq!((&ends[..], cost_of(&layout, &ends)), theirs);
+        assert_eq!((&least.ends[..], least.cost()), known.ours);
+        assert_eq!((&ends[..], cost_of(&layout, &ends)), known.other);
     }
 }
 
 #[test]
 fn least_cost_at_three_widths_may_not_be_the_least() {
-    let (strokes, fragments, line_widths, ours, cheapest) = NOT_LEAST;
-    let layout = layout(fragments, line_widths);
+    let layout = NOT_LEAST.layout();
     let least = least_cost(&layout);
-    assert_eq!(size(&layout), strokes);
-    assert_eq!((&least.ends[..], least.cost()), ours);
-    assert_eq!(optimal_fit_by_the_crate(&layout), least.ends);
     let (cost, ends) = cheapest_of_all(&layout);
-    assert_eq!((&ends[..], cost), cheapest);
+    assert_eq!(size(&layout), NOT_LEAST.size);
+    assert_eq!((&least.ends[..], least.cost()), NOT_LEAST.ours);
+    assert_eq!((&ends[..], cost), NOT_LEAST.other);
+    assert_eq!(optimal_fit_by_the_crate(&layout), least.ends);
 }
 
 /// Tries all layouts up to a size. None may differ in a kind that is not known, none at one width or two may
@@ -94,8 +134,8 @@ fn first_of_each(most: usize) -> (BTreeMap<Difference, usize>, Option<usize>) {
 
 /// No layout up to a size differs in a kind before the smallest input of that kind.
 fn hold_up_to(most: usize) {
-    let smallest = SMALLEST.into_iter().map(|(kind, size, ..)| (kind, size)).filter(|(_, size)| *size <= most);
-    assert_eq!(first_of_each(most), (smallest.collect(), Some(NOT_LEAST.0)));
+    let smallest = SMALLEST.into_iter().map(|(kind, known)| (kind, known.size)).filter(|(_, size)| *size <= most);
+    assert_eq!(first_of_each(most), (smallest.collect(), Some(NOT_LEAST.size)));
 }
 
 #[test]
