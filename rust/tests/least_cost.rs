@@ -146,8 +146,9 @@ fn with_three_widths_it_may_not_be_the_least() {
 
 // ---- all short ones
 
-/// Penalties for the layouts that are all tried: those of the crate, and small ones, that make many ties.
-const TRIED: [[u32; 5]; 2] = [DEFAULT_PENALTIES, [1, 2, 2, 1, 1]];
+/// Penalties for the layouts that are all tried: those of the crate, and small ones, that make many ties. They
+/// are five, so that each meets each fragment as they take turns.
+const TRIED: [[u32; 5]; 5] = [DEFAULT_PENALTIES, [1, 2, 2, 1, 1], [0, 1, 0, 0, 0], [0; 5], [3, 0, 1, 2, 1]];
 
 /// Every list of at most so many of these fragments, at each of these lists of line widths, with one of the
 /// penalties after the other.
@@ -173,14 +174,17 @@ fn every_layout_of_two_fragments() {
     assert!(tally.differences.borrow().is_empty());
 }
 
-/// With more cases the whitespace of 1 too.
+/// With more cases the whitespace of 1 and the line width of 1 too.
 #[test]
 fn every_layout_of_three_fragments() {
+    let (whites, widths, count): (&[u16], &[u16], u64) = match cases() {
+        MORE_CASES.. => (&[0, 1, 2], &[0, 1, 3], 6_175 * 40),
+        _ => (&[0, 2], &[0, 3], 1_885 * 15),
+    };
     let tally = Tally::default();
-    let (whites, count): (&[u16], u64) = if cases() >= MORE_CASES { (&[0, 1, 2], 6_175) } else { (&[0, 2], 1_885) };
-    hold_all(&tally, &every_fragment(&[0, 1, 2], whites, &[0, 1]), 3, &all_lists(&[0, 1, 3], 3));
-    let kinds = [Difference::CrateDearer, Difference::SeveralCrateDearer];
-    tally.hold_kinds("every layout of three fragments", count * 40, &kinds);
+    hold_all(&tally, &every_fragment(&[0, 1, 2], whites, &[0, 1]), 3, &all_lists(widths, 3));
+    let kinds = [Difference::Tie, Difference::CrateDearer, Difference::SeveralTie, Difference::SeveralCrateDearer];
+    tally.hold_kinds("every layout of three fragments", count, &kinds);
 }
 
 /// Every list of five of a few fragments that lead the crate's search astray. At one width and at two the cost
@@ -190,7 +194,7 @@ fn every_layout_of_five_fragments() {
     let tally = Tally::default();
     let items = [[0, 1, 0], [0, 0, 1], [0, 0, 0], [2, 0, 1]];
     for line_widths in [&[0][..], &[2], &[0, 2], &[0, 0, 2]] {
-        for penalties in TRIED {
+        for penalties in [TRIED[0], TRIED[1]] {
             every_list(&items, 5, |fragments| {
                 let layout = Layout { penalties, ..layout(fragments, line_widths) };
                 let least = tally.agrees(&layout).unwrap_or_else(|wrong| panic!("{wrong}"));

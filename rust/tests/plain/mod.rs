@@ -3,6 +3,7 @@
 
 #![allow(dead_code)]
 
+use std::cell::RefCell;
 use std::cmp::Ordering;
 
 use generate::layouts::{Fragment, Layout};
@@ -202,6 +203,28 @@ fn ends_of_lines<T>(lines: &[&[T]]) -> Vec<usize> {
     ends.collect()
 }
 
+/// Where the crate's search ends the lines when it is given document 01's price, in whole numbers. It must be
+/// where the crate ends them: then all that sets the two apart is the search.
+fn searched_by_document_01s_price(layout: &Layout) -> Vec<usize> {
+    let mut before = vec![0];
+    for fragment in &layout.fragments {
+        before.push(before[before.len() - 1] + with_whitespace(&[*fragment]));
+    }
+    let numbers = RefCell::new(vec![0]);
+    let minima = smawk::online_column_minima(0, layout.fragments.len() + 1, |minima: &[(usize, u64)], i, j| {
+        let mut numbers = numbers.borrow_mut();
+        for position in numbers.len()..=i {
+            let number = 1 + numbers[minima[position].0];
+            numbers.push(number);
+        }
+        let [_, white, penalty_width] = layout.fragments[j - 1];
+        let length = before[j] - before[i] - u64::from(white) + u64::from(penalty_width);
+        minima[i].1 + line_price(layout, length, numbers[i], i, j)
+    });
+    let starts: Vec<usize> = minima.iter().map(|(start, _)| *start).collect();
+    ends_of(&starts)
+}
+
 /// How the crate's layout differs from document 01's least-cost layout. The last three are for line widths
 /// of which several come to something different.
 #[derive(Clone, Copy, Debug, PartialEq, Eq, PartialOrd, Ord)]
@@ -226,12 +249,17 @@ pub fn widths_that_count(line_widths: &[u16]) -> usize {
 /// The kind of difference between the crate's layout and this one of document 01, or none. A difference of
 /// a kind that is not known is an error:
 ///
+/// - It may come from the search alone: by document 01's price the crate's search must find the crate's layout.
 /// - With one width the layout is the cheapest of all, and with two as well, since then each line but the
 ///   first has the same width: the crate's may not cost less.
 /// - With one width or two and no penalty widths the prices have the order that the crate's search assumes:
 ///   the layouts must be the same.
 pub fn difference(layout: &Layout, ours: &Least) -> Result<Option<Difference>, String> {
     let theirs = optimal_fit_by_the_crate(layout);
+    let searched = searched_by_document_01s_price(layout);
+    if searched != theirs {
+        return Err(format!("{layout:?}: the crate's ends {theirs:?}, by document 01's price {searched:?}"));
+    }
     if ours.ends == theirs {
         return Ok(None);
     }
