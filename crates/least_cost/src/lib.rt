@@ -310,7 +310,7 @@ fn clear(costs: &mut [u64], starts: &mut [u16], n: usize)
 }
 
 // The index of the first penalty above 1,000,000, or 5.
-fn first_big(p: Penalties) -> usize
+pub fn first_big(p: Penalties) -> usize
     ensures { λ r. ⌜ r ≡ firstBig p ⌝ }
 {
     let five = [p.line, p.overflow, p.fraction, p.short, p.hyphen];
@@ -326,7 +326,7 @@ fn first_big(p: Penalties) -> usize
 
 // Whether the search is begun: by what the lists were found to be, the index of the first big penalty, the
 // number of fragments, and the places of ends, costs and starts.
-fn admit(
+pub fn admit(
     tested: Tested,
     big: usize,
     n: usize,
