@@ -69,13 +69,15 @@ pub record Searchable (w s p : List ℕ) (P : Penalties) (C S : List ℕ) : Type
   pub costs : length w < length C
   pub starts : length w < length S
 
--- The table can be filled: the scratch has a place for each position, and every target is that of the first line.
-pub record Fillable (w s p ws : List ℕ) (P : Penalties) (T C S : List ℕ) : Type 0 where
+-- The table can be filled: the scratch has a place for each position, every target is that of the first line, and the start of position 0 is 0.
+pub record Fillable (w s p ws : List ℕ) (P : Penalties) (T N C S : List ℕ) : Type 0 where
   pub small : Small P
   pub even : Even w s p
   pub costs : length w < length C
   pub starts : length w < length S
   pub long : length T ≡ 4097
+  pub wide : length N ≡ 4097
+  pub none : at N 0 ≡ 0
   pub targets : (k : ℕ) → k < 4097 → at T k ≡ target ws 0
 
 -- The ends of n fragments can be written: every chosen start is smaller, and there is a place for each line.

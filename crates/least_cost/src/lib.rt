@@ -200,22 +200,22 @@ fn best_start(
 }
 
 // The line number of a position: 0 at 0, else one more than that of its chosen start.
-fn line_number(starts: &[u16], position: FragmentIndex) -> usize
-    requires { ⌜ (position .0 < length (now starts)) × Falls (at (now starts)) (position .0) ⌝ }
+fn line_number(starts: &[u16; POSITIONS], position: FragmentIndex) -> usize
+    requires { ⌜ (position .0 < 4097) × Falls (at (now starts)) (position .0) ⌝ }
     ensures { λ r. ⌜ r ≡ lineOf (at (now (starts .entry))) (position .0) ⌝ }
 {
     let j = position.0;
     if j == 0 {
         0
     } else {
-        let start = fragments::number_at(starts, j);
+        let start = starts[j] as usize;
         line_number(starts, FragmentIndex(start)) + 1
     }
 }
 
 // Fills the table, position by position. `targets` holds the wanted width of the line that starts at each
 // position: all alike where there is at most one line width, and else by the position's line number, which
-// is computed once, when its start is chosen.
+// is computed once, when its start is chosen. `chosen` holds the starts for that.
 fn fill_table(
     words: &[u16],
     whites: &[u16],
@@ -223,10 +223,11 @@ fn fill_table(
     widths: &[u16],
     p: Penalties,
     targets: &mut [u16; POSITIONS],
+    chosen: &mut [u16; POSITIONS],
     costs: &mut [u64],
     starts: &mut [u16],
 )
-    requires { ⌜ Fillable (now words) (now whites) (now penalties) (now widths) p (now targets) (now costs) (now starts) ⌝ }
+    requires { ⌜ Fillable (now words) (now whites) (now penalties) (now widths) p (now targets) (now chosen) (now costs) (now starts) ⌝ }
     ensures { λ _. ⌜ (now (costs .exit) ≡ sets (now (costs .entry)) 0 (costsOf (now (words .entry)) (now (whites .entry)) (now (penalties .entry)) (now (widths .entry)) p))
         × (now (starts .exit) ≡ sets (now (starts .entry)) 0 (startsOf (now (words .entry)) (now (whites .entry)) (now (penalties .entry)) (now (widths .entry)) p)) ⌝ }
 {
@@ -238,16 +239,18 @@ fn fill_table(
     while j < n {
         j += 1;
         let best = best_start(words, whites, penalties, p, targets, widest, costs, j);
+        let start = best.start.0 as u16;
         costs[j] = best.cost;
-        starts[j] = best.start.0 as u16;
+        starts[j] = start;
+        chosen[j] = start;
         if 1 < widths.len() {
-            let line = line_number(starts, FragmentIndex(j));
+            let line = line_number(chosen, FragmentIndex(j));
             targets[j] = target_of(widths, line);
         }
     }
 }
 
-// Fills the table, with room of its own for the targets.
+// Fills the table, with room of its own for targets and chosen starts.
 fn fill(
     words: &[u16],
     whites: &[u16],
@@ -263,6 +266,7 @@ fn fill(
 {
     let first = target_of(widths, 0);
     let mut targets = [first; POSITIONS];
+    let mut chosen = [0u16; POSITIONS];
     fill_table(
         words,
         whites,
@@ -270,9 +274,24 @@ fn fill(
         widths,
         p,
         &mut targets,
+        &mut chosen,
         costs,
         starts,
     );
+}
+
+// How many lines end at or before a position.
+fn count_lines(starts: &[u16], n: usize) -> usize
+    requires { ⌜ (n < length (now starts)) × Falls (at (now starts)) n ⌝ }
+    ensures { λ r. ⌜ r ≡ lineOf (at (now (starts .entry))) n ⌝ }
+{
+    let mut lines = 0;
+    let mut end = n;
+    while 0 < end {
+        lines += 1;
+        end = fragments::number_at(starts, end);
+    }
+    lines
 }
 
 // Writes the ends of the lines of n fragments, from the last to the first, and answers how many there
@@ -285,7 +304,7 @@ fn write_ends(starts: &[u16], n: usize, ends: &mut [u16]) -> usize
         fragments::put_end(ends, 0, FragmentIndex(0));
         return 1;
     }
-    let lines = line_number(starts, FragmentIndex(n));
+    let lines = count_lines(starts, n);
     let mut line = lines;
     let mut end = n;
     while 0 < end {
