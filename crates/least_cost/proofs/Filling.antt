@@ -89,6 +89,16 @@ module _ (w s p ws : List ℕ) (P : Penalties) (widest : ℕ) (C₀ S₀ : List 
   -- ---- one position more
 
   module _ {T N C S : List ℕ} {j : ℕ} (f : Filling T N C S j) (below : j < length w) where
+    -- What a later end costs with a start that is known, in the lists as in the table.
+    priced : (e k : ℕ) → k < suc j → startPrice w s p P T C e k ≡ via (price w s p ws P) (at (bestCosts (price w s p ws P) j)) (at (chosenStarts (price w s p ws P) j)) e k
+    unfolding startPrice price
+    priced e k l = rw (cost-at (f .done) k (omega arith), f .aimed .targets k (omega arith))
+
+    settled : (i k : ℕ) → k < i → i < j + 1 → at C i ≤ startPrice w s p P T C i k
+    settled i k l b =
+        let q = price w s p ws P in
+        rw (priced i k (omega arith), cost-at (f .done) i (omega arith)) (table-computed q j .step i (omega arith) (omega arith) .least k l)
+
     pub filling-ready : Ready w s p P T widest C (j + 1)
     filling-ready = record {
       small = f .done .fixed .small;
@@ -98,17 +108,14 @@ module _ (w s p ws : List ℕ) (P : Penalties) (widest : ℕ) (C₀ S₀ : List 
       room = omega (arith, f .done .room, f .done .fixed .room);
       cheap = λ k l. cheap-at (f .done) k (omega arith);
       narrow = λ k l. rw (f .aimed .targets k (omega arith)) (f .done .fixed .most .all _);
+      least = settled;
       most = f .done .fixed .most .low;
     }
-
-    priced : (k : ℕ) → k < suc j → startPrice w s p P T C (suc j) k ≡ via (price w s p ws P) (at (bestCosts (price w s p ws P) j)) (at (chosenStarts (price w s p ws P) j)) (suc j) k
-    unfolding startPrice price
-    priced k l = rw (cost-at (f .done) k (omega arith), f .aimed .targets k (omega arith))
 
     pub filling-done : {i v : ℕ} → Cheapest (startPrice w s p P T C (j + 1)) (j + 1) i v → Done (set C (j + 1) v) (set S (j + 1) i) (j + 1)
     filling-done {i} {v} h =
         let q = price w s p ws P in
-        let u = chosen q j i v (startPrice w s p P T C (suc j)) (rw (add-one j) at h) priced in
+        let u = chosen q j i v (startPrice w s p P T C (suc j)) (rw (add-one j) at h) (priced (suc j)) in
         record {
           fixed = f .done .fixed;
           to = omega arith;
@@ -126,7 +133,7 @@ module _ (w s p ws : List ℕ) (P : Penalties) (widest : ℕ) (C₀ S₀ : List 
       last : at (chosenStarts (price w s p ws P) (j + 1)) (j + 1) ≡ i
       last =
           let q = price w s p ws P in
-          let u = chosen q j i v (startPrice w s p P T C (suc j)) (rw (add-one j) at h) priced in
+          let u = chosen q j i v (startPrice w s p P T C (suc j)) (rw (add-one j) at h) (priced (suc j)) in
           rw (add-one j, u .1) (getD-at (chosenStarts q j) i [] 0 (suc j) (omega (arith, starts-length q j)))
 
       chosen-next : (k : ℕ) → k ≤ j + 1 → at (set N (j + 1) i) k ≡ at (chosenStarts (price w s p ws P) (j + 1)) k

@@ -11,7 +11,7 @@ ghost use Rattle.cheapest.specs.Lines.{Falls, lineOf};
 ghost use Rattle.cheapest.specs.Table.{at};
 ghost use Rattle.least_cost.specs.Price.{target, widthPrice, endingPrice, linePrice};
 ghost use Rattle.least_cost.specs.Layout.{firstBig, admissionOf, linesOf, costsOf, startsOf, Laying};
-ghost use Rattle.least_cost.specs.Search.{Small, Sized, Priceable, Even, Ready, Widest, Searchable, Fillable, Writable, startPrice};
+ghost use Rattle.least_cost.specs.Search.{Sized, Priceable, Weighable, Hopeless, Even, Ready, Widest, Searchable, Fillable, Writable, startPrice};
 ghost use Rattle.least_cost.specs.Search.{Finished};
 use fragments::Laid;
 use fragments::Tested;
@@ -103,15 +103,25 @@ fn line_price(
     wide(p.line) + width_price(p, target, len, i, j, n) + ending_price(p, penalty)
 }
 
-// A price that no line of at least `len` undercuts where at most `target` is wanted.
-fn least_price(p: Penalties, target: u64, len: u64) -> u64
-    requires { ⌜ Small p × (len ≤ 2 ^ 30) ⌝ }
-    ensures { λ r. ⌜ r ≡ p .line + p .overflow * (len - target) ⌝ }
+fn larger(a: u64, b: u64) -> u64
+    ensures { λ r. ⌜ r ≡ max a b ⌝ }
 {
-    if target < len {
-        return wide(p.line) + wide(p.overflow) * (len - target);
+    if a < b { b } else { a }
+}
+
+// Whether no start before i can be as good as the best so far. `len` is the width of the line from i, `cost`
+// what i costs, `penalty` the penalty width of the fragment before i, and no line wants more than `widest`.
+// A start before i costs at least what i does, less the line that leads to i, and its line overflows by more.
+fn hopeless(p: Penalties, widest: u64, len: u64, penalty: usize, cost: u64, best: u64) -> bool
+    requires { ⌜ Weighable p widest len penalty cost best ⌝ }
+    ensures { λ r. ⌜ (r ≡ true → Hopeless p widest len penalty cost best) ⌝ }
+{
+    let bar = larger(widest, penalty as u64);
+    if len <= bar {
+        return false;
     }
-    wide(p.line)
+    let over = wide(p.overflow) * (len - bar);
+    best + widest * widest + ending_price(p, penalty) < cost + over
 }
 
 // The larger of 1 and the width of a line by its number.
@@ -156,8 +166,7 @@ fn start_price(
 }
 
 // The start of the cheapest last line before position j, the smallest of equals, and what j costs with
-// it. The starts are tried downwards. A line only grows as its start falls, so none that is left can win
-// or tie once the overflow alone costs more than the best so far.
+// it. The starts are tried downwards, until none that is left can win or tie.
 fn best_start(
     words: &[u16],
     whites: &[u16],
@@ -179,14 +188,16 @@ fn best_start(
     let mut from = last;
     let mut i = last;
     while 0 < i {
-        i -= 1;
-        len = len + width_with(words, whites, i);
-        if best < least_price(p, widest, len) {
+        let before = i - 1;
+        let tail = fragments::number_at(penalties, before);
+        if hopeless(p, widest, len, tail, costs[i], best) {
             return Choice {
                 start: FragmentIndex(from),
                 cost: best,
             };
         }
+        i = before;
+        len = len + width_with(words, whites, i);
         let price = start_price(p, targets, costs, len, penalty, i, j, n);
         if price <= best {
             best = price;
