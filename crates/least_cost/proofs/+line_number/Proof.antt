@@ -1,11 +1,12 @@
+-- `line_number`: by the laws of the line number at 0 and above it; the argument falls, since a chosen start is smaller.
 use mathlib.Core.Path.{sym}
+use Prim.Native.Nat.{ℕ, _<_}
 use native.Mathlib.Omega.{arith}
 use borrow.Author.Needs.{needs}
-use Rattle.cheapest.specs.Table.{at}
-use Rattle.cheapest.proofs.Lines.{line-zero, line-next, line-le}
-use Prim.Native.Nat.{ℕ, _<_}
 use borrow.Fn.Kinds.{In}
 use borrow.Fn.PlainCycle.{Measures, is, falls, and}
+use Rattle.cheapest.specs.Table.{at}
+use Rattle.cheapest.proofs.Lines.{line-zero, line-next, line-le}
 use Rattle.least_cost.proofs.line_number.Reads as line-number
 use Rattle.least_cost.proofs.line_number.Kinds as line-number-kinds
 use Rattle.least_cost.proofs.+line_number.Lts-line_number as line-number-lts

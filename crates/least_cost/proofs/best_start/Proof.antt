@@ -1,13 +1,8 @@
+-- `best_start`: of the starts from i on, the choice so far is the first cheapest (`Pulled`); each turn has one start more, and a hopeless rest need not be tried.
 use borrow.Author.Needs.{needs}
 use Rattle.least_cost.proofs.Searching.{Pulled, start-ready, pulled-weigh, pulled-win, pulled-lose, pulled-cut, pulling}
 use Rattle.least_cost.proofs.best_start.Statement.{statement}
 use Rattle.least_cost.proofs.best_start.Tie as tie
-use Rattle.least_cost.proofs.best_start.Reads as reads
-use Rattle.least_cost.proofs.best_start.Lts as lts
-use Rattle.fragments.proofs.number_at.Reads as number-at-reads
-use Rattle.least_cost.proofs.start_price.Reads as start-price-reads
-use Rattle.least_cost.proofs.width_with.Reads as width-with-reads
-use Rattle.least_cost.proofs.hopeless.Reads as hopeless-reads
 
 abbrev Inv-loop : tie.InvT-loop
 Inv-loop words whites penalties p targets widest costs j n last penalty len₀ best₀ from₀ i₀ len best from i =

@@ -1,10 +1,8 @@
+-- `count_lines`: the lines counted and those still to be counted are the line number of n (`Counted`).
 use borrow.Author.Needs.{needs}
 use Rattle.least_cost.proofs.Writing.{Counted, counting-lines}
 use Rattle.least_cost.proofs.count_lines.Statement.{statement}
 use Rattle.least_cost.proofs.count_lines.Tie as tie
-use Rattle.least_cost.proofs.count_lines.Reads as reads
-use Rattle.least_cost.proofs.count_lines.Lts as lts
-use Rattle.fragments.proofs.number_at.Reads as number-at-reads
 
 abbrev Inv-loop : tie.InvT-loop
 Inv-loop starts n lines₀ end₀ lines end = Counted starts n lines end

@@ -1,3 +1,4 @@
+-- `fill_table`: the table of the positions up to j stands in the lists (`Filling`); the start that `best_start` chooses is the one of the next position.
 use mathlib.Core.Path.{_∙_}
 use Prim.Native.Nat.{_-_}
 use native.Mathlib.Omega.{arith}
@@ -6,12 +7,6 @@ use borrow.Author.Needs.{needs}
 use Rattle.least_cost.proofs.Filling.{Filling, filling-start, chosen-falls, filling-done, filling-one, filling-many, filling-end, filling}
 use Rattle.least_cost.proofs.fill_table.Statement.{statement}
 use Rattle.least_cost.proofs.fill_table.Tie as tie
-use Rattle.least_cost.proofs.fill_table.Reads as reads
-use Rattle.least_cost.proofs.fill_table.Lts as lts
-use Rattle.least_cost.proofs.best_start.Reads as best-start-reads
-use Rattle.least_cost.proofs.line_number.Reads as line-number-reads
-use Rattle.least_cost.proofs.target_of.Reads as target-of-reads
-use Rattle.least_cost.proofs.widest_of.Reads as widest-of-reads
 
 abbrev Inv-loop : tie.InvT-loop
 Inv-loop words whites penalties widths p targets₀ chosen₀ costs₀ starts₀ n widest j₀ targets chosen costs starts j =

@@ -1,14 +1,10 @@
+-- `hopeless`: its test is what `Hopeless` says, and its numbers fit.
 use mathlib.Core.Path.{refl}
 use borrow.Author.Needs.{needs}
 use Rattle.logic.proofs.Choice.{clash}
 use Rattle.least_cost.proofs.Pricing.{pricing, hopeless-true}
 use Rattle.least_cost.proofs.hopeless.Statement.{statement}
 use Rattle.least_cost.proofs.hopeless.Tie as tie
-use Rattle.least_cost.proofs.hopeless.Reads as reads
-use Rattle.least_cost.proofs.hopeless.Lts as lts
-use Rattle.least_cost.proofs.ending_price.Reads as ending-price-reads
-use Rattle.least_cost.proofs.larger.Reads as larger-reads
-use Rattle.least_cost.proofs.wide.Reads as wide-reads
 
 larger-requires : tie.Need-larger-requires
 larger-requires c κs = search needs

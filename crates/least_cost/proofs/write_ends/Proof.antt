@@ -1,13 +1,8 @@
+-- `write_ends`: the ends written and those still to come are all of them (`Writing`).
 use borrow.Author.Needs.{needs}
 use Rattle.least_cost.proofs.Writing.{Writing, lines-none, writing-end, writing}
 use Rattle.least_cost.proofs.write_ends.Statement.{statement}
 use Rattle.least_cost.proofs.write_ends.Tie as tie
-use Rattle.least_cost.proofs.write_ends.Reads as reads
-use Rattle.least_cost.proofs.write_ends.Lts as lts
-use Rattle.fragments.proofs.number_at.Reads as number-at-reads
-use Rattle.fragments.proofs.put_end.Reads as put-end-reads
-use Rattle.least_cost.proofs.line_number.Reads as line-number-reads
-use Rattle.least_cost.proofs.count_lines.Reads as count-lines-reads
 
 abbrev Inv-loop : tie.InvT-loop
 Inv-loop starts n ends₀ lines line₀ end₀ ends line end = Writing starts n ends₀ ends line end
