@@ -217,6 +217,17 @@ kenupatun_answer kenupatun_least_cost(const uint8_t *words, size_t words_len, co
                                       uint32_t short_last, uint32_t hyphen, uint8_t *ends, size_t ends_len,
                                       uint8_t *costs, size_t costs_len, uint8_t *starts, size_t starts_len);
 
+/*
+ * Fills a text where it stands. The parts between newlines are laid out each by itself, by
+ * first fit: a word, as kenupatun_words finds it in its part, starts a new line if the words
+ * of the line before it, each with its spaces, and the word itself are together wider than
+ * `width`. There the last space before the word becomes a newline. No other byte changes, so
+ * a word that is wider than `width` stays whole, on a line of its own.
+ *
+ * The count is the bytes changed. Refusals: 1, 2, then 3.
+ */
+kenupatun_answer kenupatun_fill(uint8_t *text, size_t text_len, uint32_t width);
+
 #ifdef __cplusplus
 }
 #endif

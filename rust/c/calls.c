@@ -231,6 +231,24 @@ static void least_costs(void)
                                       costs, 23, line_starts, 7), KENUPATUN_LIST_TOO_SHORT, 3, 0);
 }
 
+static void fills(void)
+{
+    static uint8_t text[KENUPATUN_TEXT_MOST + 1];
+    const char *what = "a line that is broken";
+
+    memcpy(text, "foo  bar baz\n  \xe4\xbd\xa0", 18);
+    expect(what, kenupatun_fill(text, 18, 3), 0, 0, 3);
+    expect_bytes(what, text, "foo \nbar\nbaz\n \n\xe4\xbd\xa0", 18);
+
+    what = "a text that is not filled";
+    memcpy(text, "a b \xe4\xbd", 6);
+    expect(what, kenupatun_fill(text, 6, 1), KENUPATUN_NOT_UTF8, 4, 0);
+    expect(what, kenupatun_fill(text, 4, KENUPATUN_WIDTH_MOST + 1), KENUPATUN_WIDTH_TOO_LARGE, 0, 0);
+    expect(what, kenupatun_fill(text, sizeof text, 1), KENUPATUN_TEXT_TOO_LONG, 60001, 0);
+    expect_bytes(what, text, "a b \xe4\xbd", 6);
+    expect("an empty text", kenupatun_fill(text, 0, 0), 0, 0, 0);
+}
+
 int main(void)
 {
     measures();
@@ -239,6 +257,7 @@ int main(void)
     breaks();
     first_fits();
     least_costs();
+    fills();
     if (failures == 0)
         puts("the header and the archive agree");
     return failures == 0 ? 0 : 1;

@@ -17,6 +17,7 @@
 //! | [`break_words_into`] | [`break_words`] | the words of a text, the wide ones broken |
 //! | [`first_fit_into`] | [`wrap_first_fit`] | fragments in lines, each line filled as far as it goes |
 //! | [`least_cost_into`] | [`wrap_optimal_fit`] | fragments in lines, at the least cost |
+//! | [`fill()`] | [`fill_inplace`] | a text filled in place: newlines for spaces |
 //!
 //! A text is a slice of bytes, because Kenupatun tests by itself that it is UTF-8. A plain form
 //! whose name ends in `_into` takes lists as bytes, and writes into those that it is lent for that.
@@ -44,6 +45,7 @@
 
 #![warn(missing_docs)]
 
+mod fill;
 mod layouts;
 mod raw;
 mod words;
@@ -51,6 +53,7 @@ mod words;
 use std::error::Error;
 use std::fmt;
 
+pub use fill::{fill, fill_inplace};
 pub use layouts::{first_fit_into, least_cost_into, wrap_first_fit, wrap_optimal_fit, Fragment, Penalties};
 pub use words::{
     break_apart, break_word_into, break_words, break_words_into, find_words, word_from, word_of, words_into, Word,

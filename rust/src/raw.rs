@@ -85,4 +85,6 @@ extern "C" {
         starts: *mut u8,
         starts_len: usize,
     ) -> Answer;
+
+    pub fn kenupatun_fill(text: *mut u8, text_len: usize, width: u32) -> Answer;
 }

@@ -23,6 +23,8 @@ use Rattle.first_fit.specs.FirstFit.{lineEnds}
 use Rattle.first_fit.specs.Entry.{firstFitOf, Lays}
 use Rattle.least_cost.specs.declared.Penalties.{Penalties}
 use Rattle.least_cost.specs.Layout.{costsOf, startsOf, endsOfLines, laidOf, endsAfter, scratchAfter}
+use Rattle.fill.specs.declared.Filled.{Filled}
+use Rattle.fill.specs.Fill as fills
 use Rattle.kenupatun.specs.declared.WordAnswer.{WordAnswer}
 
 abbrev pub measured : List ℕ → Answer
@@ -103,3 +105,13 @@ pub record LeastCost (w s p ws : List ℕ) (P : Penalties) (E C S : List ℕ) (r
   pub ends : E′ ≡ endsAfter (laidOf w s p ws P (places16 E) (places64 C) (places16 S)) (flat be16 (endsOfLines w s p ws P)) E
   pub costs : C′ ≡ scratchAfter (laidOf w s p ws P (places16 E) (places64 C) (places16 S)) (flat be64 (costsOf w s p ws P)) C
   pub starts : S′ ≡ scratchAfter (laidOf w s p ws P (places16 E) (places64 C) (places16 S)) (flat be16 (startsOf w s p ws P)) S
+
+-- The fill: what it answers, its numbers, and the text after it.
+abbrev pub fill : ℕ → List ℕ → Filled
+fill width text = fills.fillOf width text
+
+abbrev pub fillAnswer : Filled → Answer
+fillAnswer answer = fills.answerOf answer
+
+abbrev pub fillLeft : Filled → ℕ → List ℕ → List ℕ
+fillLeft answer width text = fills.leaves answer width text

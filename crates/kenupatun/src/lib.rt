@@ -7,7 +7,7 @@ ghost use Rattle.words.specs.Lists.{startOf, endOf, whiteOf, widthOfWord};
 ghost use Rattle.pieces.specs.Pieces.{breakApart, breakWords};
 ghost use Rattle.kenupatun.specs.Exports.{measured, found, foundAnswer, wordMade, withWord, noWord, wordIn, brokenWord, brokenWords, brokenAnswer, wordsLeft, piecesLeft};
 ghost use Rattle.wire.specs.Wire.{numbers16};
-ghost use Rattle.kenupatun.specs.Exports.{firstFit, laidAnswer, firstFitLeft, five, LeastCost};
+ghost use Rattle.kenupatun.specs.Exports.{firstFit, laidAnswer, firstFitLeft, five, LeastCost, fill, fillAnswer, fillLeft};
 use least_cost::Penalties;
 use pieces::OneWord;
 use units::Answer;
@@ -192,4 +192,13 @@ pub extern "C" fn kenupatun_least_cost(
         costs,
         starts,
     ))
+}
+
+// Fills a text where it stands, and counts the bytes changed; or refusal 1, 2 or 3.
+#[no_mangle]
+pub extern "C" fn kenupatun_fill(text: &mut [u8], width: u32) -> Answer
+    ensures { λ r. ⌜ r ≡ fillAnswer (fill width (now (text .entry))) ⌝ }
+    ensures { λ _. ⌜ now (text .exit) ≡ fillLeft (fill width (now (text .entry))) width (now (text .entry)) ⌝ }
+{
+    fill::answer_of(fill::fill_inplace(text, width))
 }

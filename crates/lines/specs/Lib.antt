@@ -1,2 +1,4 @@
 pub mod Lines
 pub mod Breaks
+pub mod Allowed
+pub mod Walk

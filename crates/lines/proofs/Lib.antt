@@ -1,0 +1,6 @@
+pub mod Laws
+pub mod Walk
+pub mod Breaking
+pub mod Rising
+pub mod Allowed
+pub mod Fewest
