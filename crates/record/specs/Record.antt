@@ -6,7 +6,7 @@ use lib.Dec.{ltb, eqb}
 use lib.ListN.{length, getD}
 use Rattle.units.specs.declared.Answer.{Answer}
 use Rattle.units.specs.Limits.{textMost}
-use Rattle.units.specs.Answers.{success, refusal}
+use Rattle.units.specs.Answers.{refusal}
 use Rattle.logic.specs.Choice.{pick}
 use Rattle.wire.specs.Wire.{be16}
 use Rattle.fill.specs.Fill.{fillOf, leaves, answerOf}

@@ -7,7 +7,8 @@ use Rattle.logic.specs.Choice.{pick}
 use Rattle.record.specs.declared.Head.{Head}
 use Rattle.record.specs.declared.Head.the-variants.{End, Refused, Job}
 use Rattle.record.specs.declared.Reply.{Reply}
-use Rattle.record.specs.Record.{headOf, settled, textAfter, replyOf, bytesOf}
+use Rattle.wire.specs.Wire.{be16}
+use Rattle.record.specs.Record.{headOf, settled, textAfter, replyHead, replyOf, bytesOf}
 
 -- The reply to a job, where `rest` is what comes after its head.
 abbrev pub jobReply : ℕ → ℕ → List ℕ → Reply
@@ -25,7 +26,7 @@ served (Job w n) rest = jobBytes w n rest
 -- whether the program goes on after it: "It .. stops silently at the end of input between records. After 1 it reads past the text and goes on. After replying 13 or 14 it stops";
 abbrev pub goesOn : Head → List ℕ → Bool
 goesOn End rest = false
-goesOn (Refused a) rest = replyOf a 0 .more
+goesOn (Refused a) rest = false
 goesOn (Job w n) rest = jobReply w n rest .more
 
 -- and how many bytes the record has after its first one.
@@ -44,3 +45,17 @@ repliesAfter zero (a ∷ t) =
 -- and to a whole input.
 abbrev pub replies : List ℕ → List ℕ
 replies s = repliesAfter 0 s
+
+-- ---- records, written down
+
+-- A job of a width and a text.
+abbrev pub jobRecord : ℕ → List ℕ → List ℕ
+jobRecord w text = 0x57 ∷ 0x4A ∷ w ∷ be16 (length text) ++ text
+
+-- The reply to that job.
+abbrev pub replyRecord : ℕ → List ℕ → List ℕ
+replyRecord w text = bytesOf (settled w (length text) (length text) text) (textAfter w (length text) (length text) text)
+
+-- A reply after which the program stops.
+abbrev pub lastReply : ℕ → List ℕ
+lastReply number = replyHead number 0 0
