@@ -1,10 +1,8 @@
+-- `admit`: one law of `admitting` for each way through the tests, in the order of document 01.
 use borrow.Author.Needs.{needs}
 use Rattle.least_cost.proofs.Admitting.{admitting}
 use Rattle.least_cost.proofs.admit.Statement.{statement}
 use Rattle.least_cost.proofs.admit.Tie as tie
-use Rattle.least_cost.proofs.admit.Reads as reads
-use Rattle.least_cost.proofs.admit.Lts as lts
-use Rattle.fragments.proofs.places_needed.Reads as places-needed-reads
 
 enum-told : tie.Need-enum-told
 enum-told c = search (admitting, needs)

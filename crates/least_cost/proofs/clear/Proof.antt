@@ -1,10 +1,9 @@
+-- `clear`: the places before k are zero, and the others are as they were (`Cleared`).
 use Prim.Native.Nat.{_+_, _-_, _≤_}
 use borrow.Author.Needs.{needs}
 use Rattle.least_cost.proofs.Writing.{Cleared, cleared-end, clearing}
 use Rattle.least_cost.proofs.clear.Statement.{statement}
 use Rattle.least_cost.proofs.clear.Tie as tie
-use Rattle.least_cost.proofs.clear.Reads as reads
-use Rattle.least_cost.proofs.clear.Lts as lts
 
 abbrev Inv-loop : tie.InvT-loop
 Inv-loop costs₀ starts₀ n k₀ costs starts k = (k ≤ n + 1) × Cleared costs₀ costs k × Cleared starts₀ starts k

@@ -1,3 +1,4 @@
+-- `first_big`: the penalties before i are within bounds (`Below`).
 use Prim.Native.Nat.{_-_}
 use borrow.Author.Needs.{needs}
 use Rattle.units.specs.Limits.{penaltyMost}
@@ -5,8 +6,6 @@ use Rattle.fragments.proofs.Laws.{Below, looking}
 use Rattle.least_cost.specs.Layout.{firstBig}
 use Rattle.least_cost.proofs.first_big.Statement.{statement}
 use Rattle.least_cost.proofs.first_big.Tie as tie
-use Rattle.least_cost.proofs.first_big.Reads as reads
-use Rattle.least_cost.proofs.first_big.Lts as lts
 
 abbrev Inv-loop : tie.InvT-loop
 Inv-loop five i₀ i = Below penaltyMost five i

@@ -1,12 +1,10 @@
+-- `widest_of`: no width before i is above the largest so far (`Widening`).
 use Prim.Native.Nat.{_-_}
 use lib.ListN.{length}
 use borrow.Author.Needs.{needs}
 use Rattle.least_cost.proofs.Pricing.{Widening, widening}
 use Rattle.least_cost.proofs.widest_of.Statement.{statement}
 use Rattle.least_cost.proofs.widest_of.Tie as tie
-use Rattle.least_cost.proofs.widest_of.Reads as reads
-use Rattle.least_cost.proofs.widest_of.Lts as lts
-use Rattle.fragments.proofs.number_at.Reads as number-at-reads
 
 abbrev Inv-loop : tie.InvT-loop
 Inv-loop widths most₀ i₀ most i = Widening widths most i
