@@ -7,3 +7,4 @@ pub mod Pieces
 pub mod Listing
 pub mod FirstFit
 pub mod LeastCost
+pub mod Fill
