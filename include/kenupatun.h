@@ -10,9 +10,10 @@
  * during the call.
  *
  * A list of numbers is a pointer, which is never NULL, and a length in bytes. A number
- * of 32 bits takes four bytes, the high one first; four bytes are a place of the list.
- * Bytes left over at the end, which make no place, are never touched. Lists that are
- * written must not overlap each other or the text.
+ * of 16, 32 or 64 bits takes two, four or eight bytes, the high one first, and these are
+ * a place of the list. Bytes left over at the end, which make no place, are never
+ * touched. Lists that are written must not overlap each other, the text, or a list that
+ * is read.
  */
 #ifndef KENUPATUN_H
 #define KENUPATUN_H
@@ -30,6 +31,12 @@ extern "C" {
 /* A line width is at most this. */
 #define KENUPATUN_WIDTH_MOST 255
 
+/* A layout has at most this many fragments. */
+#define KENUPATUN_FRAGMENTS_MOST 4096
+
+/* A penalty is at most this. */
+#define KENUPATUN_PENALTY_MOST 1000000
+
 /*
  * What every function answers, kenupatun_word_from with a word besides.
  *
@@ -37,8 +44,8 @@ extern "C" {
  *   place   0 when done. When refused, where the fault is (see the numbers below).
  *   count   what was asked for, such as the columns of a text. 0 when refused.
  *
- * A refusal changes nothing that the function was lent. Where several hold, the one
- * named first with the function is given.
+ * A refusal changes nothing that the function was lent, but for 8, which sets scratch to
+ * zero. Where several hold, the one named first with the function is given.
  */
 typedef struct {
     uint32_t number;
@@ -58,8 +65,20 @@ typedef struct {
 /* A line width exceeds 255; the place is its index, 0 where there is but one. */
 #define KENUPATUN_WIDTH_TOO_LARGE 3
 
-/* A list is too short; the place is the places that every list needs. */
+/* There are more than 4,096 fragments; the place is 0. */
+#define KENUPATUN_TOO_MANY_FRAGMENTS 4
+
+/* The three lists of fragments differ in length, counted in places; the place is 0. */
+#define KENUPATUN_LISTS_DIFFER 5
+
+/* A penalty exceeds 1,000,000; the place is its index, the first penalty having 0. */
+#define KENUPATUN_PENALTY_TOO_LARGE 6
+
+/* A list is too short; the place is the places that it needs. */
 #define KENUPATUN_LIST_TOO_SHORT 7
+
+/* The least cost exceeds 2^53; the place is 0. */
+#define KENUPATUN_COST_TOO_LARGE 8
 
 /*
  * The columns that a text takes on a terminal: 1 for a character below U+1100,
@@ -147,6 +166,67 @@ kenupatun_answer kenupatun_break_word(const uint8_t *text, size_t text_len, uint
 kenupatun_answer kenupatun_break_words(const uint8_t *text, size_t text_len, uint32_t width,
                                        uint8_t *starts, size_t starts_len, uint8_t *ends, size_t ends_len,
                                        uint8_t *whites, size_t whites_len, uint8_t *widths, size_t widths_len);
+
+/*
+ * Fragments laid out in lines by first fit: a new line starts before a fragment if the
+ * current line has one and the fragments in it, each with its whitespace, and the next
+ * one's word and penalty width are together wider than the line.
+ *
+ * All lists are of 16-bit numbers. The i-th fragment has the i-th place of three of them:
+ *
+ *   words           the width of its word
+ *   whites          the width of the whitespace after it
+ *   penalty_widths  the width of what is added where a line ends with it, as a hyphen
+ *
+ * The k-th line, counted from 0, has the k-th of line_widths, lines beyond that list its
+ * last; an empty list counts as a single 0.
+ *
+ * The count is the lines. The k-th place of ends is the index after the last fragment of
+ * the k-th line; places past the last line keep what they held. No fragments make one
+ * line, with end 0.
+ *
+ * Refusals: 5, 4, 3, then 7 where ends has fewer places than there are fragments, or none.
+ */
+kenupatun_answer kenupatun_first_fit(const uint8_t *words, size_t words_len, const uint8_t *whites, size_t whites_len,
+                                     const uint8_t *penalty_widths, size_t penalty_widths_len,
+                                     const uint8_t *line_widths, size_t line_widths_len,
+                                     uint8_t *ends, size_t ends_len);
+
+/*
+ * Fragments laid out in lines at the least cost. Lists and ends are as for
+ * kenupatun_first_fit, and so is the count.
+ *
+ * A line costs per_line, and one of these: overflow for each column by which it is wider
+ * than its width (at least 1); else, if it is not the last, its free columns squared;
+ * else short_last, if it has one fragment and is narrower than its width divided by
+ * short_fraction; and hyphen besides, if its last fragment has a penalty width.
+ *
+ * With one line width no layout costs less; with several that is not promised. costs
+ * (64-bit numbers) and starts (16-bit numbers) are scratch. On success place j of them
+ * has the cost of the first j fragments and the start of the last line of these, for each
+ * j from 0 through the number of fragments; place 0 has 0 in both.
+ *
+ * Refusals: 5, 4, 3, 6, then 7 where ends has too few places, as for kenupatun_first_fit,
+ * then 7 where costs or starts has fewer than one more than there are fragments, then 8,
+ * which sets those places of costs and starts to 0.
+ */
+kenupatun_answer kenupatun_least_cost(const uint8_t *words, size_t words_len, const uint8_t *whites, size_t whites_len,
+                                      const uint8_t *penalty_widths, size_t penalty_widths_len,
+                                      const uint8_t *line_widths, size_t line_widths_len,
+                                      uint32_t per_line, uint32_t overflow, uint32_t short_fraction,
+                                      uint32_t short_last, uint32_t hyphen, uint8_t *ends, size_t ends_len,
+                                      uint8_t *costs, size_t costs_len, uint8_t *starts, size_t starts_len);
+
+/*
+ * Fills a text where it stands. The parts between newlines are laid out each by itself, by
+ * first fit: a word, as kenupatun_words finds it in its part, starts a new line if the words
+ * of the line before it, each with its spaces, and the word itself are together wider than
+ * `width`. There the last space before the word becomes a newline. No other byte changes, so
+ * a word that is wider than `width` stays whole, on a line of its own.
+ *
+ * The count is the bytes changed. Refusals: 1, 2, then 3.
+ */
+kenupatun_answer kenupatun_fill(uint8_t *text, size_t text_len, uint32_t width);
 
 #ifdef __cplusplus
 }

@@ -6,7 +6,7 @@ mod timing;
 use timing::{texts, Table};
 
 fn main() {
-    let mut table = Table::new("measure");
+    let mut table = Table::new("measure", "byte");
     for (name, text) in texts::all() {
         table.row(
             name,

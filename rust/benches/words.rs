@@ -9,7 +9,7 @@ use timing::{texts, Table};
 
 fn main() {
     println!("find_words: ours writes into lists of bytes that are there already, the crate's words go into a new Vec");
-    let mut table = Table::new("find_words");
+    let mut table = Table::new("find_words", "byte");
     for (name, text) in texts::all() {
         let list = vec![0; 4 * (text.len() / 2 + 1)];
         let (mut starts, mut ends, mut whites, mut widths) = (list.clone(), list.clone(), list.clone(), list);

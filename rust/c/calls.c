@@ -168,12 +168,96 @@ static void breaks(void)
     expect_rest(what, 0);
 }
 
+/* Words 3 and 50 wide, one column of whitespace between them, no penalty widths, a byte left over. */
+static const uint8_t word_widths[5] = {0, 3, 0, 50, 1}, white_widths[4] = {0, 1, 0, 0}, penalty_widths[4];
+#define FRAGMENTS word_widths, sizeof word_widths, white_widths, sizeof white_widths, penalty_widths, sizeof penalty_widths
+
+/* Holds a list of bytes to what it must have. */
+static void expect_bytes(const char *what, const uint8_t *list, const char *bytes, size_t len)
+{
+    if (memcmp(list, bytes, len) == 0)
+        return;
+    failures++;
+    fprintf(stderr, "%s: a list has other bytes than it must\n", what);
+}
+
+static void first_fits(void)
+{
+    uint8_t line_width[2] = {0, 53}, line_ends[5];
+    const char *what = "two words that do not fit on a line";
+
+    memset(line_ends, 0xee, sizeof line_ends);
+    expect(what, kenupatun_first_fit(FRAGMENTS, line_width, 2, line_ends, sizeof line_ends), 0, 0, 2);
+    expect_bytes(what, line_ends, "\0\1\0\2\xee", 5);
+
+    what = "two words that fit on a line";
+    line_width[1] = 54;
+    memset(line_ends, 0xee, sizeof line_ends);
+    expect(what, kenupatun_first_fit(FRAGMENTS, line_width, 2, line_ends, sizeof line_ends), 0, 0, 1);
+    expect_bytes(what, line_ends, "\0\2\xee\xee\xee", 5);
+
+    what = "an end too few";
+    memset(line_ends, 0xee, sizeof line_ends);
+    expect(what, kenupatun_first_fit(FRAGMENTS, line_width, 2, line_ends, 3), KENUPATUN_LIST_TOO_SHORT, 2, 0);
+    what = "a line width that is too large";
+    line_width[0] = 1;
+    expect(what, kenupatun_first_fit(FRAGMENTS, line_width, 2, line_ends, 5), KENUPATUN_WIDTH_TOO_LARGE, 0, 0);
+    what = "lists that differ in length";
+    expect(what, kenupatun_first_fit(word_widths, 3, white_widths, 4, penalty_widths, 4, line_width, 2, line_ends, 5),
+           KENUPATUN_LISTS_DIFFER, 0, 0);
+    expect_bytes(what, line_ends, "\xee\xee\xee\xee\xee", 5);
+}
+
+static void least_costs(void)
+{
+    const uint8_t line_width[2] = {0, 52};
+    uint8_t line_ends[4], costs[25], line_starts[7];
+    const char *what = "two words at a cost";
+
+    memset(costs, 0xee, sizeof costs);
+    memset(line_starts, 0xee, sizeof line_starts);
+    expect(what, kenupatun_least_cost(FRAGMENTS, line_width, 2, 1000, 2500, 4, 25, 25, line_ends, sizeof line_ends,
+                                      costs, sizeof costs, line_starts, sizeof line_starts), 0, 0, 2);
+    expect_bytes(what, line_ends, "\0\1\0\2", 4);
+    /* 0; 1000 and 49 squared; 1000 more: 0, 0D49 and 1131 */
+    expect_bytes(what, costs, "\0\0\0\0\0\0\0\0" "\0\0\0\0\0\0\x0d\x49" "\0\0\0\0\0\0\x11\x31" "\xee", 25);
+    expect_bytes(what, line_starts, "\0\0\0\0\0\1\xee", 7);
+
+    what = "a penalty that is too large";
+    expect(what, kenupatun_least_cost(FRAGMENTS, line_width, 2, 1000, 2500, 4, KENUPATUN_PENALTY_MOST + 1, 25, line_ends, 4,
+                                      costs, 25, line_starts, 7), KENUPATUN_PENALTY_TOO_LARGE, 3, 0);
+    what = "scratch that is too short";
+    expect(what, kenupatun_least_cost(FRAGMENTS, line_width, 2, 1000, 2500, 4, 25, 25, line_ends, 4,
+                                      costs, 23, line_starts, 7), KENUPATUN_LIST_TOO_SHORT, 3, 0);
+}
+
+static void fills(void)
+{
+    static uint8_t text[KENUPATUN_TEXT_MOST + 1];
+    const char *what = "a line that is broken";
+
+    memcpy(text, "foo  bar baz\n  \xe4\xbd\xa0", 18);
+    expect(what, kenupatun_fill(text, 18, 3), 0, 0, 3);
+    expect_bytes(what, text, "foo \nbar\nbaz\n \n\xe4\xbd\xa0", 18);
+
+    what = "a text that is not filled";
+    memcpy(text, "a b \xe4\xbd", 6);
+    expect(what, kenupatun_fill(text, 6, 1), KENUPATUN_NOT_UTF8, 4, 0);
+    expect(what, kenupatun_fill(text, 4, KENUPATUN_WIDTH_MOST + 1), KENUPATUN_WIDTH_TOO_LARGE, 0, 0);
+    expect(what, kenupatun_fill(text, sizeof text, 1), KENUPATUN_TEXT_TOO_LONG, 60001, 0);
+    expect_bytes(what, text, "a b \xe4\xbd", 6);
+    expect("an empty text", kenupatun_fill(text, 0, 0), 0, 0, 0);
+}
+
 int main(void)
 {
     measures();
     words();
     one_word();
     breaks();
+    first_fits();
+    least_costs();
+    fills();
     if (failures == 0)
         puts("the header and the archive agree");
     return failures == 0 ? 0 : 1;

@@ -15,9 +15,12 @@
 //! | [`word_of`] | [`word_from`] | a whole text as one word |
 //! | [`break_word_into`] | [`break_apart`] | one word, broken into pieces |
 //! | [`break_words_into`] | [`break_words`] | the words of a text, the wide ones broken |
+//! | [`first_fit_into`] | [`wrap_first_fit`] | fragments in lines, each line filled as far as it goes |
+//! | [`least_cost_into`] | [`wrap_optimal_fit`] | fragments in lines, at the least cost |
+//! | [`fill()`] | [`fill_inplace`] | a text filled in place: newlines for spaces |
 //!
 //! A text is a slice of bytes, because Kenupatun tests by itself that it is UTF-8. A plain form
-//! whose name ends in `_into` writes into lists that it is lent, bytes as they come back too.
+//! whose name ends in `_into` takes lists as bytes, and writes into those that it is lent for that.
 //!
 //! ```
 //! use kenupatun::{break_words, display_width, measure, Answer, Refusal};
@@ -42,12 +45,16 @@
 
 #![warn(missing_docs)]
 
+mod fill;
+mod layouts;
 mod raw;
 mod words;
 
 use std::error::Error;
 use std::fmt;
 
+pub use fill::{fill, fill_inplace};
+pub use layouts::{first_fit_into, least_cost_into, wrap_first_fit, wrap_optimal_fit, Fragment, Penalties};
 pub use words::{
     break_apart, break_word_into, break_words, break_words_into, find_words, word_from, word_of, words_into, Word,
     WordAnswer,
@@ -58,6 +65,12 @@ pub const TEXT_MOST: usize = 60_000;
 
 /// A line width is at most this.
 pub const WIDTH_MOST: u32 = 255;
+
+/// A layout has at most this many fragments.
+pub const FRAGMENTS_MOST: usize = 4_096;
+
+/// A penalty is at most this.
+pub const PENALTY_MOST: u32 = 1_000_000;
 
 /// What every function of Kenupatun answers.
 #[repr(C)]
@@ -81,7 +94,8 @@ impl Answer {
     }
 }
 
-/// Why a function of Kenupatun refused its input. It has changed nothing that it was lent.
+/// Why a function of Kenupatun refused its input. It has changed nothing that it was lent, but for 8,
+/// which sets the scratch of [`least_cost_into`] to zero.
 #[derive(Clone, Copy, Debug, PartialEq, Eq, Hash)]
 pub struct Refusal {
     /// The reason, never 0. [`Display`](fmt::Display) says it in words.
@@ -97,9 +111,9 @@ impl fmt::Display for Refusal {
             1 => write!(f, "the text has {place} bytes, more than {TEXT_MOST}"),
             2 => write!(f, "the text is not UTF-8: no character starts at byte {place}"),
             3 => write!(f, "the line width at index {place} exceeds {WIDTH_MOST}"),
-            4 => write!(f, "there are more than 4096 fragments"),
+            4 => write!(f, "there are more than {FRAGMENTS_MOST} fragments"),
             5 => write!(f, "the three lists of fragments differ in length"),
-            6 => write!(f, "the penalty at index {place} exceeds 1000000"),
+            6 => write!(f, "the penalty at index {place} exceeds {PENALTY_MOST}"),
             7 => write!(f, "a list is too short: {place} places are needed"),
             8 => write!(f, "the least cost exceeds 2^53"),
             9 => write!(f, "the two texts differ in length"),

@@ -20,6 +20,8 @@ use Rattle.fragments.specs.Fragments.{fragments}
 use Rattle.fragments.specs.Answers as layouts
 use Rattle.first_fit.specs.FirstFit.{lineEnds}
 use Rattle.first_fit.specs.Entry.{firstFitOf, Lays}
+use Rattle.fill.specs.declared.Filled.{Filled}
+use Rattle.fill.specs.Fill as fills
 use Rattle.kenupatun.specs.declared.WordAnswer.{WordAnswer}
 
 abbrev pub measured : List ℕ → Answer
@@ -90,3 +92,13 @@ laidAnswer answer = layouts.answerOf answer
 
 abbrev pub firstFitLeft : Laid → List ℕ → List ℕ → List ℕ → List ℕ → List ℕ → List ℕ
 firstFitLeft answer words whites penalties widths ends = Lays answer (flat be16 (lineEnds (numbers16 widths) (fragments (numbers16 words) (numbers16 whites) (numbers16 penalties)))) ends
+
+-- The fill: what it answers, its numbers, and the text after it.
+abbrev pub fill : ℕ → List ℕ → Filled
+fill width text = fills.fillOf width text
+
+abbrev pub fillAnswer : Filled → Answer
+fillAnswer answer = fills.answerOf answer
+
+abbrev pub fillLeft : Filled → ℕ → List ℕ → List ℕ
+fillLeft answer width text = fills.leaves answer width text

@@ -6,7 +6,7 @@ ghost use Rattle.words.specs.Words.{words};
 ghost use Rattle.words.specs.Lists.{startOf, endOf, whiteOf, widthOfWord};
 ghost use Rattle.pieces.specs.Pieces.{breakApart, breakWords};
 ghost use Rattle.kenupatun.specs.Exports.{measured, found, foundAnswer, wordMade, withWord, noWord, wordIn, brokenWord, brokenWords, brokenAnswer, wordsLeft, piecesLeft};
-ghost use Rattle.kenupatun.specs.Exports.{firstFit, laidAnswer, firstFitLeft};
+ghost use Rattle.kenupatun.specs.Exports.{firstFit, laidAnswer, firstFitLeft, fill, fillAnswer, fillLeft};
 use pieces::OneWord;
 use units::Answer;
 use units::Columns;
@@ -150,4 +150,13 @@ pub extern "C" fn kenupatun_first_fit(
     ensures { λ _. ⌜ now (ends .exit) ≡ firstFitLeft (firstFit (now (words .entry)) (now (whites .entry)) (now (penalties .entry)) (now (widths .entry)) (now (ends .entry))) (now (words .entry)) (now (whites .entry)) (now (penalties .entry)) (now (widths .entry)) (now (ends .entry)) ⌝ }
 {
     fragments::answer_of(layout_bytes::wrap_first_fit(words, whites, penalties, widths, ends))
+}
+
+// Fills a text where it stands, and counts the bytes changed; or refusal 1, 2 or 3.
+#[no_mangle]
+pub extern "C" fn kenupatun_fill(text: &mut [u8], width: u32) -> Answer
+    ensures { λ r. ⌜ r ≡ fillAnswer (fill width (now (text .entry))) ⌝ }
+    ensures { λ _. ⌜ now (text .exit) ≡ fillLeft (fill width (now (text .entry))) width (now (text .entry)) ⌝ }
+{
+    fill::answer_of(fill::fill_inplace(text, width))
 }

@@ -58,7 +58,7 @@ unfolding metAt
 met-whole s i e w = rw e (rest-whole s i w)
 
 -- It depends on what stands from there on alone.
-drop-on : (s t : List ℕ) (i n : ℕ) → drop i s ≡ drop i t → drop (i + n) s ≡ drop (i + n) t
+pub drop-on : (s t : List ℕ) (i n : ℕ) → drop i s ≡ drop i t → drop (i + n) s ≡ drop (i + n) t
 drop-on s t i n e = sym (drop-drop n i s) ∙ ap (drop n) e ∙ drop-drop n i t
 
 pub met-same : (s t : List ℕ) (i : ℕ) → drop i s ≡ drop i t → metAt s i ≡ metAt t i

@@ -1,5 +1,7 @@
 //! What every benchmark shares: the clock, the table, the texts.
 
+// not every benchmark is about texts
+#[allow(dead_code)]
 pub mod texts;
 
 use std::hint::black_box;
@@ -15,18 +17,19 @@ const ROUND: Duration = Duration::from_millis(5);
 pub struct Table;
 
 impl Table {
-    /// Prints the head of a table.
-    pub fn new(what: &str) -> Table {
-        println!("{what:<12} {:>14} {:>14} {:>14}", "ours ns/byte", "crate ns/byte", "crate / ours");
+    /// Prints the head of a table of times for one unit, as a byte.
+    pub fn new(what: &str, unit: &str) -> Table {
+        let (ours, theirs) = (format!("ours ns/{unit}"), format!("crate ns/{unit}"));
+        println!("{what:<30} {ours:>18} {theirs:>18} {:>14}", "crate / ours");
         Table
     }
 
-    /// Times both on one input and prints a row. Above 1 in the last column, ours is faster.
-    /// Both answer what they computed, and it must be the same.
+    /// Times both on one input of so many units and prints a row. Above 1 in the last column, ours is
+    /// faster. Both answer what they computed, and it must be the same.
     pub fn row(
         &mut self,
         name: &str,
-        bytes: usize,
+        units: usize,
         mut ours: impl FnMut() -> usize,
         mut theirs: impl FnMut() -> usize,
     ) {
@@ -37,9 +40,9 @@ impl Table {
             our_best = our_best.min(nanoseconds(&mut ours, our_turns));
             their_best = their_best.min(nanoseconds(&mut theirs, their_turns));
         }
-        let per_byte = |nanoseconds: f64| nanoseconds / bytes as f64;
-        let (our_best, their_best) = (per_byte(our_best), per_byte(their_best));
-        println!("{name:<12} {our_best:>14.3} {their_best:>14.3} {:>14.2}", their_best / our_best);
+        let per_unit = |nanoseconds: f64| nanoseconds / units as f64;
+        let (our_best, their_best) = (per_unit(our_best), per_unit(their_best));
+        println!("{name:<30} {our_best:>18.3} {their_best:>18.3} {:>14.2}", their_best / our_best);
     }
 }
 

@@ -3,6 +3,7 @@
 //! - [`Rng`]: numbers from a seed, the same on every machine.
 //! - [`text`]: texts that reach the corners of escapes, widths and UTF-8.
 //! - [`words`]: texts that reach the corners of words, and widths to break them at.
+//! - [`layouts`]: fragments, line widths and penalties that reach the corners of layouts.
 //! - [`damage`]: texts that are not UTF-8, or no longer what they were.
 //! - [`every_string`]: all short strings over an alphabet.
 //! - [`run`]: runs a check on many cases and, where it fails, shrinks the case ([`shrink`]).
@@ -13,6 +14,7 @@
 #![warn(missing_docs)]
 
 pub mod damage;
+pub mod layouts;
 pub mod shrink;
 pub mod text;
 pub mod words;
@@ -23,5 +25,5 @@ mod runner;
 
 pub use exhaustive::every_string;
 pub use rng::Rng;
-pub use runner::{cases, run, seed};
+pub use runner::{cases, run, seed, MORE_CASES};
 pub use shrink::Shrink;

@@ -9,6 +9,9 @@ use crate::{Rng, Shrink};
 const SEED: u64 = 20_260_101;
 const CASES: u64 = 300_000;
 
+/// From so many cases on, a comparison that tries all short inputs takes more kinds of them.
+pub const MORE_CASES: u64 = 1_000_000;
+
 /// The seed of all runs: `KENUPATUN_SEED`, or the same number every time.
 pub fn seed() -> u64 {
     from_environment("KENUPATUN_SEED", SEED)
