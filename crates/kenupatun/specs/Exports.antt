@@ -22,6 +22,7 @@ use Rattle.first_fit.specs.FirstFit.{lineEnds}
 use Rattle.first_fit.specs.Entry.{firstFitOf, Lays}
 use Rattle.fill.specs.declared.Filled.{Filled}
 use Rattle.fill.specs.Fill as fills
+use Rattle.judge.specs.Judge as judges
 use Rattle.kenupatun.specs.declared.WordAnswer.{WordAnswer}
 
 abbrev pub measured : List ℕ → Answer
@@ -102,3 +103,7 @@ fillAnswer answer = fills.answerOf answer
 
 abbrev pub fillLeft : Filled → ℕ → List ℕ → List ℕ
 fillLeft answer width text = fills.leaves answer width text
+
+-- The check's numbers.
+abbrev pub judged : ℕ → List ℕ → List ℕ → Answer
+judged width before after = judges.answerOf (judges.judgeOf width before after)
