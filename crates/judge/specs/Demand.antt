@@ -3,7 +3,9 @@ use mathlib.Core.Path.{_≡_}
 use Prim.Native.Nat.{ℕ, suc, _+_, _≤_, _<_}
 use mathlib.Core.List.{List, [], _∷_, map}
 use lib.ListN.{length, getD}
+use Rattle.units.specs.Limits.{textMost, widthMost}
 use Rattle.logic.specs.Member.{_∈_}
+use Rattle.chars.specs.Utf8.{Whole}
 use Rattle.fragments.specs.Fragments.{Fragment}
 use Rattle.first_fit.specs.Groupings.{AllGood, Grouping, lines}
 use Rattle.words.specs.declared.Word.{Word}
@@ -12,6 +14,12 @@ use Rattle.words.specs.Lists.{startOf}
 use Rattle.lines.specs.Lines.{InputLine, inputLines, bodyOf}
 use Rattle.lines.specs.Breaks.{fragmentOf}
 use Rattle.judge.specs.Judge.{marks}
+
+-- The bounds of document 01, which the check tests first. Where the lengths agree, the text after is within them too.
+pub record Limits (width : ℕ) (before : List ℕ) : Type 0 where
+  pub small : length before ≤ textMost
+  pub whole : Whole before
+  pub narrow : width ≤ widthMost
 
 -- "the last space before a further word of its input line": a word that is not the line's first starts right after the place.
 pub record LastSpace (before : List ℕ) (p : ℕ) : Type 0 where
