@@ -6,3 +6,4 @@ pub mod Words
 pub mod Pieces
 pub mod Listing
 pub mod FirstFit
+pub mod Check

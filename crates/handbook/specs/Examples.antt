@@ -7,6 +7,7 @@ use Rattle.words.specs.declared.Word.{Word}
 use Rattle.words.specs.Words.{words}
 use Rattle.words.specs.Lists.{startOf, endOf, whiteOf, widthOfWord}
 use Rattle.pieces.specs.Pieces.{breakApart}
+use Rattle.judge.specs.Judge as check
 
 -- An answer as number, place and count.
 abbrev pub numbers : Answer → List ℕ
@@ -27,7 +28,21 @@ flatWords (p ∷ ps) = startOf p ∷ endOf p ∷ whiteOf p ∷ widthOfWord p ∷
 abbrev pub broken : List ℕ → ℕ → List ℕ
 broken text w = flatWords (breakApart text w)
 
+-- The check of a text after against the text before.
+abbrev pub checked : ℕ → List ℕ → List ℕ → List ℕ
+checked width before after = numbers (check.answerOf (check.judgeOf width before after))
+
 -- ---- the texts, as bytes
+
+-- `a b c`, and with one newline and with two
+abbrev pub abc : List ℕ
+abc = 0x61 ∷ 0x20 ∷ 0x62 ∷ 0x20 ∷ 0x63 ∷ []
+
+abbrev pub abcOne : List ℕ
+abcOne = 0x61 ∷ 0x0A ∷ 0x62 ∷ 0x20 ∷ 0x63 ∷ []
+
+abbrev pub abcTwo : List ℕ
+abcTwo = 0x61 ∷ 0x0A ∷ 0x62 ∷ 0x0A ∷ 0x63 ∷ []
 
 -- `Hello!  `
 abbrev pub hello : List ℕ
@@ -64,9 +79,12 @@ given =
     ∷ measured openString
     ∷ wordWidths openString
     ∷ broken hello 3
+    ∷ checked 3 abc abcOne
+    ∷ checked 3 abc abcTwo
+    ∷ checked 3 abc abc
     ∷ []
 
--- measuring: 0 is success, with place 0; the count is the columns. `ab ` ESC `]cd ef` measures 3, but its words 2, 0, 2. `Hello!  ` broken at 3: `Hel`, `lo!` with two spaces
+-- measuring: 0 is success, with place 0; the count is the columns. `ab ` ESC `]cd ef` measures 3, but its words 2, 0, 2. `Hello!  ` broken at 3: `Hel`, `lo!` with two spaces. Check of `a b c` at 3: `a`⏎`b c` accepted, `a`⏎`b`⏎`c` 12, unchanged 11
 abbrev pub wanted : List (List ℕ)
 wanted =
     (0 ∷ 0 ∷ 10 ∷ [])
@@ -76,4 +94,7 @@ wanted =
     ∷ (0 ∷ 0 ∷ 3 ∷ [])
     ∷ (2 ∷ 0 ∷ 2 ∷ [])
     ∷ (0 ∷ 3 ∷ 0 ∷ 3 ∷ 3 ∷ 6 ∷ 2 ∷ 3 ∷ [])
+    ∷ (0 ∷ 0 ∷ 0 ∷ [])
+    ∷ (12 ∷ 0 ∷ 0 ∷ [])
+    ∷ (11 ∷ 0 ∷ 0 ∷ [])
     ∷ []
