@@ -6,4 +6,5 @@ pub mod Words
 pub mod Pieces
 pub mod Listing
 pub mod FirstFit
+pub mod LeastCost
 pub mod Check

@@ -1,10 +1,11 @@
 -- What the functions for C answer and leave in lists of bytes, by the definitions of the entries that they call.
+use mathlib.Core.Path.{_≡_}
 use Prim.Native.Nat.{ℕ, min}
 use mathlib.Core.List.{List, map}
 use lib.ListN.{length}
 use Rattle.units.specs.declared.Answer.{Answer}
 use Rattle.logic.specs.Flat.{flat}
-use Rattle.wire.specs.Wire.{be16, be32, numbers16, places16, places32}
+use Rattle.wire.specs.Wire.{be16, be32, be64, numbers16, places16, places32, places64}
 use Rattle.measure.specs.Measure as measure
 use Rattle.words.specs.declared.Word.{Word}
 use Rattle.words.specs.declared.Listed.{Listed}
@@ -20,6 +21,8 @@ use Rattle.fragments.specs.Fragments.{fragments}
 use Rattle.fragments.specs.Answers as layouts
 use Rattle.first_fit.specs.FirstFit.{lineEnds}
 use Rattle.first_fit.specs.Entry.{firstFitOf, Lays}
+use Rattle.least_cost.specs.declared.Penalties.{Penalties}
+use Rattle.least_cost.specs.Layout.{costsOf, startsOf, endsOfLines, laidOf, endsAfter, scratchAfter}
 use Rattle.fill.specs.declared.Filled.{Filled}
 use Rattle.fill.specs.Fill as fills
 use Rattle.judge.specs.Judge as judges
@@ -93,6 +96,16 @@ laidAnswer answer = layouts.answerOf answer
 
 abbrev pub firstFitLeft : Laid → List ℕ → List ℕ → List ℕ → List ℕ → List ℕ → List ℕ
 firstFitLeft answer words whites penalties widths ends = Lays answer (flat be16 (lineEnds (numbers16 widths) (fragments (numbers16 words) (numbers16 whites) (numbers16 penalties)))) ends
+
+-- Least cost of lists of bytes, w, s, p and ws being the numbers of the fragments and widths, E, C and S the bytes of ends, costs and starts: its numbers, and each of the three lists after it.
+abbrev pub five : ℕ → ℕ → ℕ → ℕ → ℕ → Penalties
+five perLine overflow fraction short hyphen = record { line = perLine; overflow = overflow; fraction = fraction; short = short; hyphen = hyphen }
+
+pub record LeastCost (w s p ws : List ℕ) (P : Penalties) (E C S : List ℕ) (r : Answer) (E′ C′ S′ : List ℕ) : Type 0 where
+  pub answer : r ≡ laidAnswer (laidOf w s p ws P (places16 E) (places64 C) (places16 S))
+  pub ends : E′ ≡ endsAfter (laidOf w s p ws P (places16 E) (places64 C) (places16 S)) (flat be16 (endsOfLines w s p ws P)) E
+  pub costs : C′ ≡ scratchAfter (laidOf w s p ws P (places16 E) (places64 C) (places16 S)) (flat be64 (costsOf w s p ws P)) C
+  pub starts : S′ ≡ scratchAfter (laidOf w s p ws P (places16 E) (places64 C) (places16 S)) (flat be16 (startsOf w s p ws P)) S
 
 -- The fill: what it answers, its numbers, and the text after it.
 abbrev pub fill : ℕ → List ℕ → Filled

@@ -6,7 +6,9 @@ ghost use Rattle.words.specs.Words.{words};
 ghost use Rattle.words.specs.Lists.{startOf, endOf, whiteOf, widthOfWord};
 ghost use Rattle.pieces.specs.Pieces.{breakApart, breakWords};
 ghost use Rattle.kenupatun.specs.Exports.{measured, found, foundAnswer, wordMade, withWord, noWord, wordIn, brokenWord, brokenWords, brokenAnswer, wordsLeft, piecesLeft};
-ghost use Rattle.kenupatun.specs.Exports.{firstFit, laidAnswer, firstFitLeft, fill, fillAnswer, fillLeft, judged};
+ghost use Rattle.wire.specs.Wire.{numbers16};
+ghost use Rattle.kenupatun.specs.Exports.{firstFit, laidAnswer, firstFitLeft, five, LeastCost, fill, fillAnswer, fillLeft, judged};
+use least_cost::Penalties;
 use pieces::OneWord;
 use units::Answer;
 use units::Columns;
@@ -150,6 +152,46 @@ pub extern "C" fn kenupatun_first_fit(
     ensures { λ _. ⌜ now (ends .exit) ≡ firstFitLeft (firstFit (now (words .entry)) (now (whites .entry)) (now (penalties .entry)) (now (widths .entry)) (now (ends .entry))) (now (words .entry)) (now (whites .entry)) (now (penalties .entry)) (now (widths .entry)) (now (ends .entry)) ⌝ }
 {
     fragments::answer_of(layout_bytes::wrap_first_fit(words, whites, penalties, widths, ends))
+}
+
+// The ends of the lines of the least cost, in a list of 16-bit numbers, and how many lines there are; the
+// best cost of each position in a list of 64-bit numbers, and its chosen start in one of 16-bit numbers; or
+// refusal 5, 4, 3, 6, 7 or 8.
+#[no_mangle]
+pub extern "C" fn kenupatun_least_cost(
+    words: &[u8],
+    whites: &[u8],
+    penalties: &[u8],
+    widths: &[u8],
+    line: u32,
+    overflow: u32,
+    fraction: u32,
+    short: u32,
+    hyphen: u32,
+    ends: &mut [u8],
+    costs: &mut [u8],
+    starts: &mut [u8],
+) -> Answer
+    ensures { λ r. ⌜ LeastCost (numbers16 (now (words .entry))) (numbers16 (now (whites .entry))) (numbers16 (now (penalties .entry))) (numbers16 (now (widths .entry)))
+        (five line overflow fraction short hyphen) (now (ends .entry)) (now (costs .entry)) (now (starts .entry)) r (now (ends .exit)) (now (costs .exit)) (now (starts .exit)) ⌝ }
+{
+    let p = Penalties {
+        line,
+        overflow,
+        fraction,
+        short,
+        hyphen,
+    };
+    fragments::answer_of(cost_bytes::wrap_optimal_fit(
+        words,
+        whites,
+        penalties,
+        widths,
+        p,
+        ends,
+        costs,
+        starts,
+    ))
 }
 
 // Fills a text where it stands, and counts the bytes changed; or refusal 1, 2 or 3.

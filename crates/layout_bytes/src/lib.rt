@@ -15,7 +15,7 @@ use fragments::Tested;
 use units::WIDTH_MOST;
 
 // The index of the first number above a bound, or how many numbers there are.
-fn first_above(list: &[u8], most: usize) -> usize
+pub fn first_above(list: &[u8], most: usize) -> usize
     ensures { λ r. ⌜ r ≡ firstAbove most (numbers16 (now (list .entry))) ⌝ }
 {
     let n = wire::count16(list);

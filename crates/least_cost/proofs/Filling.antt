@@ -1,13 +1,13 @@
 -- The table as it is filled: what holds at the head of the loop, and a law for each way into, round and out of it.
-use mathlib.Core.Path.{_≡_, refl, sym, ap, _∙_, subst}
+use mathlib.Core.Path.{_≡_, refl, sym, ap, _∙_}
 use mathlib.Core.Logic.{⊎-elim, _≢_}
-use mathlib.Core.List.{List, [], _∷_, _++_}
-use Prim.Native.Nat.{ℕ, zero, suc, _+_, _-_, _^_, _≤_, _<_, min, max}
+use mathlib.Core.List.{List, []}
+use Prim.Native.Nat.{ℕ, suc, _+_, _-_, _^_, _≤_, _<_, min, max}
 use native.Mathlib.Nat.{eq-or-lt-of-le}
 use native.Mathlib.Numerals.{add-one}
 use native.Mathlib.Omega.{arith}
 use lib.ListN.{length, getD, set, replicate, length-set, length-replicate, getD-replicate}
-use lib.Seq.{sets, set-set, getD-set-same, getD-set-other}
+use lib.Seq.{sets, set-set, getD-at, getD-set-same, getD-set-other}
 use Rattle.fragments.specs.Lists.{widthOf}
 use Rattle.cheapest.specs.Least.{Cheapest}
 use Rattle.cheapest.specs.Lines.{Falls, lineOf}
@@ -15,7 +15,7 @@ use Rattle.cheapest.specs.Table.{at, via, bestCosts, chosenStarts}
 use Rattle.cheapest.proofs.Lines.{line-same, line-zero}
 use Rattle.cheapest.proofs.Table.{table-falls, costs-length, starts-length, table-computed, costs-none, starts-none, grown-same, chosen}
 use Rattle.least_cost.specs.declared.Penalties.{Penalties}
-use Rattle.least_cost.specs.Price.{target, priceAt, price}
+use Rattle.least_cost.specs.Price.{target, price}
 use Rattle.least_cost.specs.Layout.{costsOf, startsOf}
 use Rattle.least_cost.specs.Search.{Small, Even, Ready, Widest, Searchable, Fillable, startPrice}
 use Rattle.least_cost.proofs.Bounds.{Short, cost-cap}
@@ -50,32 +50,23 @@ module _ (w s p ws : List ℕ) (P : Penalties) (widest : ℕ) (C₀ S₀ : List 
     pub room : length C ≡ length C₀
     pub place : length S ≡ length S₀
 
-  -- Their targets are known.
-  pub record Aimed (T : List ℕ) (j : ℕ) : Type 0 where
+  -- Their targets and their chosen starts are at hand.
+  pub record Aimed (T N : List ℕ) (j : ℕ) : Type 0 where
     pub long : length T ≡ 4097
+    pub wide : length N ≡ 4097
+    pub chosen : (k : ℕ) → k ≤ j → at N k ≡ at (chosenStarts (price w s p ws P) j) k
     pub targets : (k : ℕ) → k ≤ j → at T k ≡ target ws (lineOf (at (chosenStarts (price w s p ws P) j)) k)
     pub one : length ws ≤ 1 → (k : ℕ) → k < 4097 → at T k ≡ target ws 0
 
-  pub record Filling (T C S : List ℕ) (j : ℕ) : Type 0 where
+  pub record Filling (T N C S : List ℕ) (j : ℕ) : Type 0 where
     pub done : Done C S j
-    pub aimed : Aimed T j
+    pub aimed : Aimed T N j
 
   module _ {C S : List ℕ} {j : ℕ} (d : Done C S j) where
     cost-at : (k : ℕ) → k ≤ j → at C k ≡ at (bestCosts (price w s p ws P) j) k
     cost-at k l =
         let n = costs-length (price w s p ws P) j in
         rw (d .costs) (sets-at C₀ (bestCosts (price w s p ws P) j) k (omega arith) (omega (arith, d .to, d .fixed .room)))
-
-    start-at : (k : ℕ) → k ≤ j → at S k ≡ at (chosenStarts (price w s p ws P) j) k
-    start-at k l =
-        let n = starts-length (price w s p ws P) j in
-        rw (d .starts) (sets-at S₀ (chosenStarts (price w s p ws P) j) k (omega arith) (omega (arith, d .to, d .fixed .place)))
-
-    -- Each chosen start is smaller, in the list as in the table.
-    pub done-falls : Falls (at S) j
-    done-falls k z l =
-        let q = price w s p ws P in
-        rw (start-at k l) (table-falls q j (at (bestCosts q j)) (at (chosenStarts q j)) (table-computed q j) k z l)
 
     cheap-at : (k : ℕ) → k ≤ j → at C k ≤ 2 ^ 50
     cheap-at k l =
@@ -84,12 +75,19 @@ module _ (w s p ws : List ℕ) (P : Penalties) (widest : ℕ) (C₀ S₀ : List 
         rw (cost-at k l)
         (cost-cap w s p ws P (f .words) (f .whites) (f .penalties) (f .widths) (f .small) j (at (bestCosts q j)) (at (chosenStarts q j)) (table-computed q j) (omega (arith, d .to, f .even .few)) k l)
 
-    line-at : (k : ℕ) → k ≤ j → lineOf (at S) k ≡ lineOf (at (chosenStarts (price w s p ws P) j)) k
-    line-at k l = line-same (at S) (at (chosenStarts (price w s p ws P) j)) k (λ i z h. done-falls i z (omega arith)) (λ i h. start-at i (omega arith))
-
   -- ---- one position more
 
-  module _ {T C S : List ℕ} {j : ℕ} (f : Filling T C S j) (below : j < length w) where
+  module _ {T N C S : List ℕ} {j : ℕ} (f : Filling T N C S j) (below : j < length w) where
+    -- What a later end costs with a start that is known, in the lists as in the table.
+    priced : (e k : ℕ) → k < suc j → startPrice w s p P T C e k ≡ via (price w s p ws P) (at (bestCosts (price w s p ws P) j)) (at (chosenStarts (price w s p ws P) j)) e k
+    unfolding startPrice price
+    priced e k l = rw (cost-at (f .done) k (omega arith), f .aimed .targets k (omega arith))
+
+    settled : (i k : ℕ) → k < i → i < j + 1 → at C i ≤ startPrice w s p P T C i k
+    settled i k l b =
+        let q = price w s p ws P in
+        rw (priced i k (omega arith), cost-at (f .done) i (omega arith)) (table-computed q j .step i (omega arith) (omega arith) .least k l)
+
     pub filling-ready : Ready w s p P T widest C (j + 1)
     filling-ready = record {
       small = f .done .fixed .small;
@@ -99,17 +97,14 @@ module _ (w s p ws : List ℕ) (P : Penalties) (widest : ℕ) (C₀ S₀ : List 
       room = omega (arith, f .done .room, f .done .fixed .room);
       cheap = λ k l. cheap-at (f .done) k (omega arith);
       narrow = λ k l. rw (f .aimed .targets k (omega arith)) (f .done .fixed .most .all _);
+      least = settled;
       most = f .done .fixed .most .low;
     }
-
-    priced : (k : ℕ) → k < suc j → startPrice w s p P T C (suc j) k ≡ via (price w s p ws P) (at (bestCosts (price w s p ws P) j)) (at (chosenStarts (price w s p ws P) j)) (suc j) k
-    unfolding startPrice price
-    priced k l = rw (cost-at (f .done) k (omega arith), f .aimed .targets k (omega arith))
 
     pub filling-done : {i v : ℕ} → Cheapest (startPrice w s p P T C (j + 1)) (j + 1) i v → Done (set C (j + 1) v) (set S (j + 1) i) (j + 1)
     filling-done {i} {v} h =
         let q = price w s p ws P in
-        let u = chosen q j i v (startPrice w s p P T C (suc j)) (rw (add-one j) at h) priced in
+        let u = chosen q j i v (startPrice w s p P T C (suc j)) (rw (add-one j) at h) (priced (suc j)) in
         record {
           fixed = f .done .fixed;
           to = omega arith;
@@ -119,52 +114,79 @@ module _ (w s p ws : List ℕ) (P : Penalties) (widest : ℕ) (C₀ S₀ : List 
           place = length-set S (j + 1) i ∙ f .done .place;
         }
 
-    -- With one width its target is there already.
-    pub filling-one : {C′ S′ : List ℕ} → Done C′ S′ (j + 1) → length ws ≤ 1 → Filling T C′ S′ (j + 1)
-    filling-one d l = record {
-      done = d;
-      aimed = record {
-        long = f .aimed .long;
-        targets = λ k h. f .aimed .one l k (omega (arith, d .to, d .fixed .even .few)) ∙ one-target ws 0 _ l;
-        one = f .aimed .one;
-      };
-    }
+    module _ {i v : ℕ} (h : Cheapest (startPrice w s p P T C (j + 1)) (j + 1) i v) where
+      -- The chosen starts, with the one of this position.
+      stays : (k : ℕ) → k ≤ j → at (chosenStarts (price w s p ws P) j) k ≡ at (chosenStarts (price w s p ws P) (j + 1)) k
+      stays k l = rw (add-one j) (grown-same (price w s p ws P) j k l .1)
 
-    -- With several it is that of its line number.
-    pub filling-many : {C′ S′ : List ℕ} {line t : ℕ} → Done C′ S′ (j + 1) → 1 < length ws → line ≡ lineOf (at S′) (j + 1) → t ≡ target ws line → Filling (set T (j + 1) t) C′ S′ (j + 1)
-    filling-many {C′} {S′} {line} {t} d l el et = record {
-      done = d;
-      aimed = record {
-        long = length-set T (j + 1) t ∙ f .aimed .long;
-        targets = λ k h. ⊎-elim (λ (z : k ≡ j + 1). rw z here) (λ (m : k < j + 1). there k (omega arith)) (eq-or-lt-of-le h);
-        one = λ o. absurd (omega arith);
-      };
-    }
-      where
-        here : at (set T (j + 1) t) (j + 1) ≡ target ws (lineOf (at (chosenStarts (price w s p ws P) (j + 1))) (j + 1))
-        here =
-            getD-set-same T (j + 1) t 0 (omega (arith, f .aimed .long, d .to, d .fixed .even .few))
-            ∙ et
-            ∙ ap (λ (x : ℕ). target ws x) (el ∙ line-at d (j + 1) (omega arith))
+      last : at (chosenStarts (price w s p ws P) (j + 1)) (j + 1) ≡ i
+      last =
+          let q = price w s p ws P in
+          let u = chosen q j i v (startPrice w s p P T C (suc j)) (rw (add-one j) at h) (priced (suc j)) in
+          rw (add-one j, u .1) (getD-at (chosenStarts q j) i [] 0 (suc j) (omega (arith, starts-length q j)))
 
-        there : (k : ℕ) → k ≤ j → at (set T (j + 1) t) k ≡ target ws (lineOf (at (chosenStarts (price w s p ws P) (j + 1))) k)
-        there k h =
-            let q = price w s p ws P in
-            let n : k ≢ j + 1 = omega arith in
-            getD-set-other T (j + 1) k t 0 n
-            ∙ f .aimed .targets k h
-            ∙ ap (λ (x : ℕ). target ws x)
-            (rw (add-one j)
-            (line-same (at (chosenStarts q j)) (at (chosenStarts q (suc j))) k
-            (λ i z m. table-falls q j (at (bestCosts q j)) (at (chosenStarts q j)) (table-computed q j) i z (omega arith))
-            (λ i m. grown-same q j i (omega arith) .1)))
+      chosen-next : (k : ℕ) → k ≤ j + 1 → at (set N (j + 1) i) k ≡ at (chosenStarts (price w s p ws P) (j + 1)) k
+      chosen-next k l = ⊎-elim
+          (λ (z : k ≡ j + 1). rw z (getD-set-same N (j + 1) i 0 (omega (arith, f .aimed .wide, f .done .fixed .even .few)) ∙ sym last))
+          (λ (m : k < j + 1). let n : k ≢ j + 1 = omega arith in getD-set-other N (j + 1) k i 0 n ∙ f .aimed .chosen k (omega arith) ∙ stays k (omega arith))
+          (eq-or-lt-of-le l)
+
+      -- Each chosen start is smaller.
+      pub chosen-falls : Falls (at (set N (j + 1) i)) (j + 1)
+      chosen-falls k z l =
+          let q = price w s p ws P in
+          rw (chosen-next k l) (table-falls q (j + 1) (at (bestCosts q (j + 1))) (at (chosenStarts q (j + 1))) (table-computed q (j + 1)) k z l)
+
+      -- With one width its target is there already.
+      pub filling-one : {C′ S′ : List ℕ} → Done C′ S′ (j + 1) → length ws ≤ 1 → Filling T (set N (j + 1) i) C′ S′ (j + 1)
+      filling-one d l = record {
+        done = d;
+        aimed = record {
+          long = f .aimed .long;
+          wide = length-set N (j + 1) i ∙ f .aimed .wide;
+          chosen = chosen-next;
+          targets = λ k m. f .aimed .one l k (omega (arith, d .to, d .fixed .even .few)) ∙ one-target ws 0 _ l;
+          one = f .aimed .one;
+        };
+      }
+
+      -- With several it is that of its line number.
+      pub filling-many : {C′ S′ : List ℕ} {line t : ℕ} → Done C′ S′ (j + 1) → 1 < length ws → line ≡ lineOf (at (set N (j + 1) i)) (j + 1) → t ≡ target ws line
+          → Filling (set T (j + 1) t) (set N (j + 1) i) C′ S′ (j + 1)
+      filling-many {C′} {S′} {line} {t} d l el et = record {
+        done = d;
+        aimed = record {
+          long = length-set T (j + 1) t ∙ f .aimed .long;
+          wide = length-set N (j + 1) i ∙ f .aimed .wide;
+          chosen = chosen-next;
+          targets = λ k m. ⊎-elim (λ (z : k ≡ j + 1). rw z here) (λ (b : k < j + 1). there k (omega arith)) (eq-or-lt-of-le m);
+          one = λ o. absurd (omega arith);
+        };
+      }
+        where
+          here : at (set T (j + 1) t) (j + 1) ≡ target ws (lineOf (at (chosenStarts (price w s p ws P) (j + 1))) (j + 1))
+          here =
+              getD-set-same T (j + 1) t 0 (omega (arith, f .aimed .long, d .to, d .fixed .even .few))
+              ∙ et
+              ∙ ap (λ (x : ℕ). target ws x) (el ∙ line-same (at (set N (j + 1) i)) (at (chosenStarts (price w s p ws P) (j + 1))) (j + 1) chosen-falls chosen-next)
+
+          there : (k : ℕ) → k ≤ j → at (set T (j + 1) t) k ≡ target ws (lineOf (at (chosenStarts (price w s p ws P) (j + 1))) k)
+          there k m =
+              let q = price w s p ws P in
+              let n : k ≢ j + 1 = omega arith in
+              getD-set-other T (j + 1) k t 0 n
+              ∙ f .aimed .targets k m
+              ∙ ap (λ (x : ℕ). target ws x)
+              (line-same (at (chosenStarts q j)) (at (chosenStarts q (j + 1))) k
+              (λ i z b. table-falls q j (at (bestCosts q j)) (at (chosenStarts q j)) (table-computed q j) i z (omega arith))
+              (λ i b. stays i (omega arith)))
 
 -- ---- the start and the end; E and F are the scratch lists before the first store
 
 module _ (w s p ws : List ℕ) (P : Penalties) (widest : ℕ) (E F : List ℕ) where
-  pub filling-start : {T : List ℕ} → Fillable w s p ws P T E F → Short w → Short s → Short p → Short ws → Widest ws widest
-      → Filling w s p ws P widest (set E 0 0) (set F 0 0) T (set E 0 0) (set F 0 0) 0
-  filling-start {T} f hw hs hp hws m = record {
+  pub filling-start : {T N : List ℕ} → Fillable w s p ws P T N E F → Short w → Short s → Short p → Short ws → Widest ws widest
+      → Filling w s p ws P widest (set E 0 0) (set F 0 0) T N (set E 0 0) (set F 0 0) 0
+  filling-start {T} {N} f hw hs hp hws m = record {
     done = record {
       fixed = record {
         small = f .small;
@@ -185,14 +207,16 @@ module _ (w s p ws : List ℕ) (P : Penalties) (widest : ℕ) (E F : List ℕ) w
     };
     aimed = record {
       long = f .long;
+      wide = f .wide;
+      chosen = λ k l. let z : k ≡ 0 = omega arith in rw (z, starts-none (price w s p ws P)) (f .none);
       targets = λ k l. let z : k ≡ 0 = omega arith in rw (z, line-zero) (f .targets 0 (omega arith));
       one = λ o. f .targets;
     };
   }
 
-  pub filling-end : {T C S : List ℕ} {j : ℕ} → Filling w s p ws P widest (set E 0 0) (set F 0 0) T C S j → length w ≤ j → (C ≡ sets E 0 (costsOf w s p ws P)) × (S ≡ sets F 0 (startsOf w s p ws P))
+  pub filling-end : {T N C S : List ℕ} {j : ℕ} → Filling w s p ws P widest (set E 0 0) (set F 0 0) T N C S j → length w ≤ j → (C ≡ sets E 0 (costsOf w s p ws P)) × (S ≡ sets F 0 (startsOf w s p ws P))
   unfolding costsOf startsOf
-  filling-end {T} {C} {S} {j} f l =
+  filling-end {T} {N} {C} {S} {j} f l =
       let q = price w s p ws P in
       let e : length w ≡ j = omega (arith, f .done .to) in
       rw e (
@@ -200,15 +224,17 @@ module _ (w s p ws : List ℕ) (P : Penalties) (widest : ℕ) (E F : List ℕ) w
         f .done .starts ∙ sets-first F (chosenStarts q j) 0 (omega (arith, starts-length q j)),
       )
 
-pub ruleset filling = (filling-ready, filling-done, filling-one, filling-many, done-falls)
+pub ruleset filling = (filling-ready, filling-done, filling-one, filling-many, chosen-falls)
 
 -- Every target is that of the first line.
-pub filling-all : {w s p ws : List ℕ} {P : Penalties} {C S : List ℕ} {t : ℕ} → Searchable w s p P C S → t ≡ target ws 0 → Fillable w s p ws P (replicate 4097 t) C S
+pub filling-all : {w s p ws : List ℕ} {P : Penalties} {C S : List ℕ} {t : ℕ} → Searchable w s p P C S → t ≡ target ws 0 → Fillable w s p ws P (replicate 4097 t) (replicate 4097 0) C S
 filling-all {w} {s} {p} {ws} {P} {C} {S} {t} h e = record {
   small = h .small;
   even = h .even;
   costs = h .costs;
   starts = h .starts;
   long = length-replicate 4097 t;
+  wide = length-replicate {A = ℕ} 4097 0;
+  none = getD-replicate {A = ℕ} 4097 0 0 0 (omega arith);
   targets = λ k l. getD-replicate 4097 k t 0 l ∙ e;
 }

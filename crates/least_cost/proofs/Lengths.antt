@@ -1,10 +1,7 @@
 -- How wide a line is, from its last fragment downwards: it only grows as its start falls.
-use mathlib.Core.Path.{_≡_, refl, sym, ap, _∙_, subst}
-use mathlib.Core.Logic.{⊎-elim}
-use mathlib.Core.List.{List, [], _∷_}
+use mathlib.Core.Path.{_≡_}
+use mathlib.Core.List.{List}
 use Prim.Native.Nat.{ℕ, zero, suc, _+_, _-_, _≤_, _<_}
-use native.Mathlib.Nat.{eq-or-lt-of-le}
-use native.Mathlib.Numerals.{add-one}
 use native.Mathlib.Omega.{arith}
 use lib.ListN.{length, getD}
 use lib.Seq.{slice, slice-cons, slice-empty}
@@ -37,6 +34,27 @@ last-le l i j h b =
     let z : i + (j - 1 - i) ≡ j - 1 = omega arith in
     rw (e, z) at (last-in l (j - 1 - i) i (omega arith))
 
+-- A part in two.
+split-by : (l : List ℕ) (d k j : ℕ) → k + d ≤ j → j ≤ length l → total (slice k j l) ≡ total (slice k (k + d) l) + total (slice (k + d) j l)
+unfolding total
+split-by l zero k j h b =
+    let z : k + 0 ≡ k = omega arith in
+    rw (z, slice-empty k l) (omega arith)
+split-by l (suc d) k j h b =
+    let z : k + suc d ≡ suc k + d = omega arith in
+    rw z
+    (omega (
+      arith,
+      total-more l k j (omega arith) b,
+      total-more l k (suc k + d) (omega arith) (omega arith),
+      split-by l d (suc k) j (omega arith) b,
+    ))
+
+total-split : (l : List ℕ) (k i j : ℕ) → k ≤ i → i ≤ j → j ≤ length l → total (slice k j l) ≡ total (slice k i l) + total (slice i j l)
+total-split l k i j h g b =
+    let z : k + (i - k) ≡ i = omega arith in
+    rw z at (split-by l (i - k) k j (omega arith) b)
+
 module _ (w s p : List ℕ) (e : Even w s p) where
   -- A line of one fragment has no whitespace.
   pub len-one : (i : ℕ) → suc i ≤ length w → lineLen w s p i (suc i) ≡ getD w i 0 + getD p i 0
@@ -67,3 +85,16 @@ module _ (w s p : List ℕ) (e : Even w s p) where
   len-grows k i j l h b =
       let z : k + (i - k) ≡ i = omega arith in
       rw z at (grows-by (i - k) k j (omega arith) b)
+
+  -- A line in two: the first of them loses its penalty width and has its last whitespace again.
+  pub len-split : (k i j : ℕ) → k < i → i < j → j ≤ length w → lineLen w s p k j + getD p (i - 1) 0 ≡ lineLen w s p k i + getD s (i - 1) 0 + lineLen w s p i j
+  unfolding lineLen
+  len-split k i j h g b =
+      omega (
+        arith,
+        e .whites,
+        total-split w k i j (omega arith) (omega arith) b,
+        total-split s k i j (omega arith) (omega arith) (omega (arith, e .whites)),
+        last-le s k i h (omega (arith, e .whites)),
+        last-le s i j g (omega (arith, e .whites)),
+      )

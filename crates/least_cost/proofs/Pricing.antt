@@ -1,5 +1,6 @@
 -- The price of a line, case by case as the code goes, that its numbers fit, and its bounds. A call's result is a number of its own with an equation.
-use mathlib.Core.Path.{_≡_, refl, sym, _∙_}
+use mathlib.Core.Path.{_≡_}
+use mathlib.Core.Bool.{true}
 use mathlib.Core.Logic.{⊎-elim}
 use mathlib.Core.List.{List}
 use Prim.Native.Nat.{ℕ, _+_, _-_, _*_, _^_, _≤_, _<_, min, max}
@@ -8,14 +9,14 @@ use native.Mathlib.Decide.{decLt}
 use native.Mathlib.Omega.{arith}
 use mir.Syntax.{w64}
 use mir.Val.{Fits}
-use lib.Dec.{ltb, eqb}
+use lib.Dec.{ltb}
 use lib.ListN.{length, getD, List·getD-eq-default}
-use borrow.Author.Tests.{lt-ltb, le-ltb, eq-eqb, ne-eqb}
+use borrow.Author.Tests.{lt-ltb, le-ltb, eq-eqb, ne-eqb, ltb-true}
 use Rattle.logic.proofs.Choice.{pick-le}
 use Rattle.fragments.specs.Lists.{widthOf}
 use Rattle.least_cost.specs.declared.Penalties.{Penalties}
 use Rattle.least_cost.specs.Price.{widthPrice, endingPrice, linePrice, target}
-use Rattle.least_cost.specs.Search.{Small, Sized, Widest}
+use Rattle.least_cost.specs.Search.{Small, Sized, Weighable, Hopeless, Widest}
 
 product : (a b x y : ℕ) → a ≤ x → b ≤ y → a * b ≤ x * y
 product a b x y h g = mul-le-mul h g
@@ -82,16 +83,38 @@ module _ (P : Penalties) (T L h i j n : ℕ) where
   unfolding linePrice
   line-whole s x y b z = (cc, omega (arith, s .line, ending-cap P h s))
 
-pub least-fits : (P : Penalties) (T L : ℕ) {a o : ℕ} → Small P → L ≤ 2 ^ 30 → a ≡ P .line → o ≡ P .overflow → Fits w64 (a + o * (L - T))
-least-fits P T L s b x y = record { fits = rw (x, y) (omega (arith, s .line, over P T L s b)) }
+-- ---- whether a search goes on
 
-pub least-over : (P : Penalties) (T L : ℕ) {a o : ℕ} → a ≡ P .line → o ≡ P .overflow → a + o * (L - T) ≡ P .line + P .overflow * (L - T)
-least-over P T L x y = rw (x, y)
+module _ (P : Penalties) (widest L penalty cost best : ℕ) (z : Weighable P widest L penalty cost best) {bar o : ℕ} (eb : bar ≡ max widest penalty) (eo : o ≡ P .overflow) where
+  weighed : o * (L - bar) ≤ 1000000 * 2 ^ 30
+  weighed = rw eo (over P bar L (z .small) (z .len))
 
-pub least-plain : (P : Penalties) (T L : ℕ) {a : ℕ} → a ≡ P .line → L ≤ T → a ≡ P .line + P .overflow * (L - T)
-least-plain P T L x l = let z : L - T ≡ 0 = omega arith in rw (x, z) (omega arith)
+  pub weigh-over : Fits w64 (o * (L - bar))
+  weigh-over = record { fits = omega (arith, weighed) }
 
-pub ruleset pricing = (over-fits, square-fits, part-fits, line-fits, least-fits, least-over, least-plain)
+  pub weigh-cost : Fits w64 (cost + o * (L - bar))
+  weigh-cost = record { fits = omega (arith, weighed, z .cheap) }
+
+squares : (n : ℕ) → n ≤ 65535 → n * n ≤ 65535 * 65535
+squares n l = product n n 65535 65535 l l
+
+pub weigh-square : {P : Penalties} {widest L penalty cost best : ℕ} → Weighable P widest L penalty cost best → Fits w64 (widest * widest)
+weigh-square {P} {widest} z = record { fits = omega (arith, squares widest (z .most)) }
+
+pub weigh-best : {P : Penalties} {widest L penalty cost best : ℕ} → Weighable P widest L penalty cost best → Fits w64 (best + widest * widest)
+weigh-best {P} {widest} z = record { fits = omega (arith, squares widest (z .most), z .low) }
+
+pub weigh-all : {P : Penalties} {widest L penalty cost best e : ℕ} → Weighable P widest L penalty cost best → e ≡ endingPrice P penalty → Fits w64 (best + widest * widest + e)
+weigh-all {P} {widest} {L} {penalty} z q = record { fits = omega (arith, squares widest (z .most), z .low, ending-cap P penalty (z .small)) }
+
+pub hopeless-true : {P : Penalties} {widest L penalty cost best bar o e : ℕ} → bar ≡ max widest penalty → bar < L → o ≡ P .overflow → e ≡ endingPrice P penalty
+    → ltb (best + widest * widest + e) (cost + o * (L - bar)) ≡ true → Hopeless P widest L penalty cost best
+hopeless-true {P} {widest} {L} {penalty} {cost} {best} {bar} {o} {e} eb l eo ee t = record {
+  over = rw eb at l;
+  dear = rw (eb, eo, ee) at (ltb-true (best + widest * widest + e) (cost + o * (L - bar)) t);
+}
+
+pub ruleset pricing = (over-fits, square-fits, part-fits, line-fits, weigh-over, weigh-cost, weigh-square, weigh-best, weigh-all)
 
 -- ---- the wanted width
 

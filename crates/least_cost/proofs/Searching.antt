@@ -1,21 +1,22 @@
 -- The search of one position, from its last start downwards: what holds at the head of the loop, and a law for each way into, round and out of it.
-use mathlib.Core.Path.{_≡_, refl, sym, ap, _∙_, subst}
+use mathlib.Core.Bool.{true, false}
+use mathlib.Core.Path.{_≡_, sym, ap, _∙_, subst}
 use mathlib.Core.Logic.{⊎-elim}
-use mathlib.Core.List.{List, [], _∷_}
-use Prim.Native.Nat.{ℕ, zero, suc, _+_, _-_, _*_, _^_, _≤_, _<_}
-use native.Mathlib.Nat.{eq-or-lt-of-le, mul-le-mul, le-refl}
+use mathlib.Core.List.{List}
+use Prim.Native.Nat.{ℕ, suc, _+_, _-_, _*_, _^_, _≤_, _<_, max}
+use native.Mathlib.Nat.{eq-or-lt-of-le, mul-le-mul, le-refl, mul-add}
 use native.Mathlib.Decide.{decLt}
 use native.Mathlib.Omega.{arith}
 use lib.Dec.{ltb}
 use lib.ListN.{length, getD}
-use borrow.Author.Tests.{ltb-true, ltb-false}
+use borrow.Author.Tests.{ltb-true, ltb-false, ne-eqb}
 use Rattle.logic.proofs.Choice.{both}
 use Rattle.cheapest.specs.Least.{Cheapest}
 use Rattle.cheapest.specs.Table.{at}
 use Rattle.least_cost.specs.declared.Penalties.{Penalties}
-use Rattle.least_cost.specs.Price.{lineLen, widthPrice, linePrice, priceAt}
-use Rattle.least_cost.specs.Search.{Small, Sized, Priceable, Even, Ready, startPrice}
-use Rattle.least_cost.proofs.Lengths.{len-one, len-more, len-grows}
+use Rattle.least_cost.specs.Price.{lineLen, widthPrice, endingPrice, linePrice, priceAt}
+use Rattle.least_cost.specs.Search.{Priceable, Weighable, Hopeless, Ready, startPrice}
+use Rattle.least_cost.proofs.Lengths.{len-one, len-more, len-grows, len-split}
 
 -- No price is below its overflow.
 pub price-low : (P : Penalties) (T L h i j n : ℕ) → P .line + P .overflow * (L - T) ≤ linePrice P T L h i j n
@@ -26,6 +27,18 @@ price-low P T L h i j n =
     (λ t.
     let z : L - T ≡ 0 = omega (arith, ltb-false T L t) in
     rw z (omega arith))
+
+-- The price of a line that does not end the text: where it overflows, and at most where it does not.
+line-over : (P : Penalties) (T L h i j n e : ℕ) → ltb T L ≡ true → endingPrice P h ≡ e → linePrice P T L h i j n ≡ P .line + P .overflow * (L - T) + e
+unfolding linePrice widthPrice
+line-over P T L h i j n e c q = rw (c, q)
+
+line-gap : (P : Penalties) (T L h i j n e most : ℕ) → ltb T L ≡ false → endingPrice P h ≡ e → j < n → T ≤ most → linePrice P T L h i j n ≤ P .line + most * most + e
+unfolding linePrice widthPrice
+line-gap P T L h i j n e most c q l m =
+    let x : (T - L) * (T - L) ≤ most * most = mul-le-mul (let y : T - L ≤ most = omega arith in y) (let y : T - L ≤ most = omega arith in y) in
+    let z : j ≡ n → ⊥ = λ u. absurd (omega arith) in
+    rw (c, ne-eqb j n z, q) (omega arith)
 
 module _ (w s p : List ℕ) (P : Penalties) (T C : List ℕ) (widest j : ℕ) where
   -- Of the starts from i on, `from` is the first at which j is cheapest, and `best` is what it costs; the line from i is `len` wide.
@@ -136,25 +149,54 @@ module _ (w s p : List ℕ) (P : Penalties) (T C : List ℕ) (widest j : ℕ) wh
           first = lower (λ k. k < from → best < startPrice w s p P T C j k) (λ b. omega arith) (λ k b m. h .first k b m);
         }
 
-    -- The overflow alone is dearer than the best: so is every start from here down.
-    dearer : best < P .line + P .overflow * (len + a - widest) → (k : ℕ) → k ≤ i - 1 → best < startPrice w s p P T C j k
-    unfolding startPrice priceAt
-    dearer cut k b =
-        let g : lineLen w s p (i - 1) j ≤ lineLen w s p k j = len-grows w s p (h .ready .even) k (i - 1) j b (omega (arith, h .below)) (h .ready .within) in
-        let t : at T k ≤ widest = h .ready .narrow k (omega (arith, h .below)) in
-        let x : len + a - widest ≤ lineLen w s p k j - at T k = omega (arith, longer) in
-        let m : P .overflow * (len + a - widest) ≤ P .overflow * (lineLen w s p k j - at T k) = mul-le-mul (le-refl (P .overflow)) x in
-        omega (arith, price-low P (at T k) (lineLen w s p k j) (getD p (j - 1) 0) k j (length w))
+  pub pulled-weigh : {tail len best from i t : ℕ} → Pulled tail len best from i → t ≤ 65535 → Weighable P widest len t (at C i) best
+  pulled-weigh {tail} {len} {best} {from} {i} h l = record {
+    small = h .ready .small;
+    most = h .ready .most;
+    len = omega (arith, h .cap, h .below, h .ready .within, h .ready .even .few);
+    tail = l;
+    cheap = h .ready .cheap i (h .below);
+    low = h .small;
+  }
 
-    pub pulled-cut : {b : ℕ} → b ≡ P .line + P .overflow * (len + a - widest) → best < b → Cheapest (startPrice w s p P T C j) j from best
-    pulled-cut {b} eb lt =
-        let d = dearer (omega arith) in
-        record {
-          below = h .chosen-high;
-          value = h .value;
-          least = λ k m. elim (decLt k i) [ yes l ↦ omega (arith, d k (omega arith)) | no l ↦ h .least k (omega arith) m ];
-          first = λ k m. elim (decLt k i) [ yes l ↦ d k (omega arith) | no l ↦ h .first k (omega arith) m ];
-        }
+  -- A start below i costs at least what i does, less the line that leads to i, and its line overflows by more.
+  module _ {tail len best from i t : ℕ} (h : Pulled tail len best from i) (up : 0 < i) (et : t ≡ getD p (i - 1) 0) (d : Hopeless P widest len t (at C i) best) where
+    below : (k : ℕ) → k < i → best < startPrice w s p P T C j k
+    unfolding startPrice priceAt
+    below k b =
+        let Lki = lineLen w s p k i in
+        let Lkj = lineLen w s p k j in
+        let n = length w in
+        let e = endingPrice P t in
+        let bar = max widest t in
+        let low = price-low P (at T k) Lkj (getD p (j - 1) 0) k j n in
+        let ends : endingPrice P (getD p (i - 1) 0) ≡ e = ap (λ (x : ℕ). endingPrice P x) (sym et) in
+        let up-to = h .ready .least i k b (h .below) in
+        let narrow = h .ready .narrow k (omega (arith, h .below)) in
+        let split = len-split w s p (h .ready .even) k i j b (h .below) (h .ready .within) in
+        let grows = len-grows w s p (h .ready .even) k i j (omega arith) (h .below) (h .ready .within) in
+        both (ltb (at T k) Lki)
+        (λ c.
+        let l = ltb-true (at T k) Lki c in
+        let w₁ : linePrice P (at T k) Lki (getD p (i - 1) 0) k i n ≡ P .line + P .overflow * (Lki - at T k) + e = line-over P (at T k) Lki (getD p (i - 1) 0) k i n e c ends in
+        let x : (Lki - at T k) + (len - bar) ≤ Lkj - at T k = omega (arith, d .over, h .wide) in
+        let m : P .overflow * ((Lki - at T k) + (len - bar)) ≤ P .overflow * (Lkj - at T k) = mul-le-mul (le-refl (P .overflow)) x in
+        omega (arith, d .dear, mul-add (P .overflow) (Lki - at T k) (len - bar)))
+        (λ c.
+        let l = ltb-false (at T k) Lki c in
+        let w₂ : linePrice P (at T k) Lki (getD p (i - 1) 0) k i n ≤ P .line + widest * widest + e =
+        line-gap P (at T k) Lki (getD p (i - 1) 0) k i n e widest c ends (omega (arith, h .below, h .ready .within)) narrow in
+        let x : len - bar ≤ Lkj - at T k = omega (arith, h .wide) in
+        let m : P .overflow * (len - bar) ≤ P .overflow * (Lkj - at T k) = mul-le-mul (le-refl (P .overflow)) x in
+        omega (arith, d .dear))
+
+    pub pulled-cut : Cheapest (startPrice w s p P T C j) j from best
+    pulled-cut = record {
+      below = h .chosen-high;
+      value = h .value;
+      least = λ k m. elim (decLt k i) [ yes l ↦ omega (arith, below k l) | no l ↦ h .least k (omega arith) m ];
+      first = λ k m. elim (decLt k i) [ yes l ↦ below k l | no l ↦ h .first k (omega arith) m ];
+    }
 
   -- No start is left.
   pub pulled-end : {tail len best from i : ℕ} → Pulled tail len best from i → i ≤ 0 → Cheapest (startPrice w s p P T C j) j from best

@@ -1,11 +1,10 @@
 -- The ends as they are written, from the last to the first: what stands there and the ends still to come are all of them.
 use mathlib.Core.Path.{_≡_, refl, sym, ap, _∙_}
-use mathlib.Core.List.{List, [], _∷_, _++_}
+use mathlib.Core.List.{List}
 use Prim.Native.Nat.{ℕ, zero, suc, _+_, _-_, _≤_, _<_}
-use native.Mathlib.Numerals.{add-one}
 use native.Mathlib.Omega.{arith}
 use lib.ListN.{length, set, replicate, length-set, length-replicate, replicate-append-replicate}
-use lib.Seq.{sets, length-sets}
+use lib.Seq.{sets}
 use Rattle.cheapest.specs.Lines.{Falls, lineOf, endsOf}
 use Rattle.cheapest.specs.Table.{at}
 use Rattle.cheapest.proofs.Lines.{line-next, line-le, line-zero, ends-zero, ends-next, ends-length}
@@ -21,6 +20,41 @@ lines-none s (suc n) E e q = absurd (omega arith)
 lines-some : (s : ℕ → ℕ) (n : ℕ) → 0 < n → linesOf s n ≡ endsOf s n
 lines-some s zero l = absurd (omega arith)
 lines-some s (suc n) l = refl
+
+-- So many lines were counted from n back to `end`, and those before `end` are still to be counted.
+pub record Counted (S : List ℕ) (n lines end : ℕ) : Type 0 where
+  pub falls : Falls (at S) n
+  pub starts : n < length S
+  pub to : end ≤ n
+  pub sum : lines + lineOf (at S) end ≡ lineOf (at S) n
+  pub few : lines + end ≤ n
+
+module _ (S : List ℕ) (n : ℕ) where
+  pub counted-start : n < length S → Falls (at S) n → Counted S n 0 n
+  counted-start l f = record { falls = f; starts = l; to = omega arith; sum = omega arith; few = omega arith }
+
+  module _ {lines end v : ℕ} (h : Counted S n lines end) (up : 0 < end) (e : v ≡ at S end) where
+    pub counted-less : v < end
+    counted-less = omega (arith, h .falls end up (h .to))
+
+    pub counted-step : Counted S n (lines + 1) v
+    counted-step =
+        let m : lineOf (at S) end ≡ lineOf (at S) (at S end) + 1 = line-next (at S) end (λ k z l. h .falls k z (omega (arith, h .to))) up in
+        let l = counted-less in
+        record {
+          falls = h .falls;
+          starts = h .starts;
+          to = omega (arith, h .to);
+          sum = rw e (omega (arith, h .sum));
+          few = omega (arith, h .few);
+        }
+
+  pub counted-end : {lines end : ℕ} → Counted S n lines end → end ≤ 0 → lines ≡ lineOf (at S) n
+  counted-end {lines} {end} h z =
+      let y : end ≡ 0 = omega arith in
+      omega (arith, h .sum, line-zero (at S), ap (λ (k : ℕ). lineOf (at S) k) y)
+
+pub ruleset counting-lines = (counted-start, counted-less, counted-step, counted-end)
 
 -- E has come of E₀; the lines before `end` are still to be written, and there are `line` of them.
 pub record Writing (S : List ℕ) (n : ℕ) (E₀ E : List ℕ) (line end : ℕ) : Type 0 where

@@ -1,6 +1,6 @@
 -- What the parts of the search ask of each other.
 use mathlib.Core.Path.{_≡_}
-use Prim.Native.Nat.{ℕ, _+_, _^_, _≤_, _<_}
+use Prim.Native.Nat.{ℕ, _+_, _-_, _*_, _^_, _≤_, _<_, max}
 use mathlib.Core.List.{List}
 use lib.Dec.{ltb}
 use lib.ListN.{length, replicate}
@@ -12,7 +12,7 @@ use Rattle.fragments.specs.declared.Laid.the-variants.{Lines, Unequal, TooMany,
 use Rattle.cheapest.specs.Lines.{Falls}
 use Rattle.cheapest.specs.Table.{at}
 use Rattle.least_cost.specs.declared.Penalties.{Penalties}
-use Rattle.least_cost.specs.Price.{target, priceAt}
+use Rattle.least_cost.specs.Price.{target, endingPrice, priceAt}
 use Rattle.least_cost.specs.Layout.{linesOf, endsAfter}
 
 -- The penalties are within bounds.
@@ -36,13 +36,31 @@ pub record Priceable (P : Penalties) (T C : List ℕ) (L i : ℕ) : Type 0 where
   pub room : i < length C
   pub cheap : at C i ≤ 2 ^ 50
 
+-- Whether a search goes on can be weighed.
+pub record Weighable (P : Penalties) (widest L penalty cost best : ℕ) : Type 0 where
+  pub small : Small P
+  pub most : widest ≤ 65535
+  pub len : L ≤ 2 ^ 30
+  pub tail : penalty ≤ 65535
+  pub cheap : cost ≤ 2 ^ 50
+  pub low : best ≤ 2 ^ 51
+
+-- It need not: the overflow beyond the wider of the widest line and the penalty width is dearer than all that a lower start could save.
+pub record Hopeless (P : Penalties) (widest L penalty cost best : ℕ) : Type 0 where
+  pub over : max widest penalty < L
+  pub dear : best + widest * widest + endingPrice P penalty < cost + P .overflow * (L - max widest penalty)
+
 -- The three lists have as many numbers as each other, and not too many.
 pub record Even (w s p : List ℕ) : Type 0 where
   pub whites : length s ≡ length w
   pub penalties : length p ≡ length w
   pub few : length w ≤ fragmentsMost
 
--- Position j can be searched: the costs of the positions before it are known, and their targets, none above `widest`.
+-- What j costs if its last line starts at i, by the costs and the targets of the positions before it.
+unfoldable pub startPrice : List ℕ → List ℕ → List ℕ → Penalties → List ℕ → List ℕ → ℕ → ℕ → ℕ
+startPrice w s p P T C j i = at C i + priceAt w s p P (at T i) i j
+
+-- Position j can be searched: the costs of the positions before it are known and least, and their targets, none above `widest`.
 pub record Ready (w s p : List ℕ) (P : Penalties) (T : List ℕ) (widest : ℕ) (C : List ℕ) (j : ℕ) : Type 0 where
   pub small : Small P
   pub even : Even w s p
@@ -51,11 +69,8 @@ pub record Ready (w s p : List ℕ) (P : Penalties) (T : List ℕ) (widest : ℕ
   pub room : j ≤ length C
   pub cheap : (k : ℕ) → k < j → at C k ≤ 2 ^ 50
   pub narrow : (k : ℕ) → k < j → at T k ≤ widest
+  pub least : (i k : ℕ) → k < i → i < j → at C i ≤ startPrice w s p P T C i k
   pub most : widest ≤ 65535
-
--- What j costs if its last line starts at i, by the costs and the targets of the positions before it.
-unfoldable pub startPrice : List ℕ → List ℕ → List ℕ → Penalties → List ℕ → List ℕ → ℕ → ℕ → ℕ
-startPrice w s p P T C j i = at C i + priceAt w s p P (at T i) i j
 
 -- No line wants more.
 pub record Widest (ws : List ℕ) (r : ℕ) : Type 0 where
@@ -69,13 +84,15 @@ pub record Searchable (w s p : List ℕ) (P : Penalties) (C S : List ℕ) : Type
   pub costs : length w < length C
   pub starts : length w < length S
 
--- The table can be filled: the scratch has a place for each position, and every target is that of the first line.
-pub record Fillable (w s p ws : List ℕ) (P : Penalties) (T C S : List ℕ) : Type 0 where
+-- The table can be filled: the scratch has a place for each position, every target is that of the first line, and the start of position 0 is 0.
+pub record Fillable (w s p ws : List ℕ) (P : Penalties) (T N C S : List ℕ) : Type 0 where
   pub small : Small P
   pub even : Even w s p
   pub costs : length w < length C
   pub starts : length w < length S
   pub long : length T ≡ 4097
+  pub wide : length N ≡ 4097
+  pub none : at N 0 ≡ 0
   pub targets : (k : ℕ) → k < 4097 → at T k ≡ target ws 0
 
 -- The ends of n fragments can be written: every chosen start is smaller, and there is a place for each line.

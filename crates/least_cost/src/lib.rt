@@ -2,8 +2,8 @@
 // price is least, the smallest of equals. The lines and what they cost are by the definitions of `specs/`;
 // nothing here knows texts.
 ghost use mathlib.Core.Path.{_≡_};
-ghost use mathlib.Core.Bool.{Bool, true};
-ghost use Prim.Native.Nat.{ℕ, _+_, _-_, _*_, _^_, _≤_, _<_, max};
+ghost use mathlib.Core.Bool.{true};
+ghost use Prim.Native.Nat.{_+_, _*_, _^_, _≤_, _<_, max};
 ghost use lib.ListN.{length, getD, replicate};
 ghost use lib.Seq.{sets};
 ghost use Rattle.cheapest.specs.Least.{Cheapest};
@@ -11,8 +11,7 @@ ghost use Rattle.cheapest.specs.Lines.{Falls, lineOf};
 ghost use Rattle.cheapest.specs.Table.{at};
 ghost use Rattle.least_cost.specs.Price.{target, widthPrice, endingPrice, linePrice};
 ghost use Rattle.least_cost.specs.Layout.{firstBig, admissionOf, linesOf, costsOf, startsOf, Laying};
-ghost use Rattle.least_cost.specs.Search.{Small, Sized, Priceable, Even, Ready, Widest, Searchable, Fillable, Writable, startPrice};
-ghost use Rattle.least_cost.specs.Search.{Finished};
+ghost use Rattle.least_cost.specs.Search.{Sized, Priceable, Weighable, Hopeless, Ready, Widest, Searchable, Fillable, Writable, Finished, startPrice};
 use fragments::Laid;
 use fragments::Tested;
 use units::COST_MOST;
@@ -23,7 +22,11 @@ use units::WIDTH_MOST;
 // The positions before, between and after the most fragments.
 const POSITIONS: usize = 4097;
 
-// The five penalties, in document 01's order.
+// How many penalties there are.
+const PENALTY_COUNT: usize = 5;
+
+// The penalties in document 01's order: per line, overflow, short-last-line fraction, short last line,
+// hyphen.
 pub struct Penalties {
     pub line: u32,
     pub overflow: u32,
@@ -103,15 +106,25 @@ fn line_price(
     wide(p.line) + width_price(p, target, len, i, j, n) + ending_price(p, penalty)
 }
 
-// A price that no line of at least `len` undercuts where at most `target` is wanted.
-fn least_price(p: Penalties, target: u64, len: u64) -> u64
-    requires { ⌜ Small p × (len ≤ 2 ^ 30) ⌝ }
-    ensures { λ r. ⌜ r ≡ p .line + p .overflow * (len - target) ⌝ }
+fn larger(a: u64, b: u64) -> u64
+    ensures { λ r. ⌜ r ≡ max a b ⌝ }
 {
-    if target < len {
-        return wide(p.line) + wide(p.overflow) * (len - target);
+    if a < b { b } else { a }
+}
+
+// Whether no start before i can be as good as the best so far. `len` is the width of the line from i, `cost`
+// what i costs, `penalty` the penalty width of the fragment before i, and no line wants more than `widest`.
+// A start before i costs at least what i does, less the line that leads to i, and its line overflows by more.
+fn hopeless(p: Penalties, widest: u64, len: u64, penalty: usize, cost: u64, best: u64) -> bool
+    requires { ⌜ Weighable p widest len penalty cost best ⌝ }
+    ensures { λ r. ⌜ (r ≡ true → Hopeless p widest len penalty cost best) ⌝ }
+{
+    let bar = larger(widest, penalty as u64);
+    if len <= bar {
+        return false;
     }
-    wide(p.line)
+    let over = wide(p.overflow) * (len - bar);
+    best + widest * widest + ending_price(p, penalty) < cost + over
 }
 
 // The larger of 1 and the width of a line by its number.
@@ -156,8 +169,7 @@ fn start_price(
 }
 
 // The start of the cheapest last line before position j, the smallest of equals, and what j costs with
-// it. The starts are tried downwards. A line only grows as its start falls, so none that is left can win
-// or tie once the overflow alone costs more than the best so far.
+// it. The starts are tried downwards, until none that is left can win or tie.
 fn best_start(
     words: &[u16],
     whites: &[u16],
@@ -179,14 +191,16 @@ fn best_start(
     let mut from = last;
     let mut i = last;
     while 0 < i {
-        i -= 1;
-        len = len + width_with(words, whites, i);
-        if best < least_price(p, widest, len) {
+        let before = i - 1;
+        let tail = fragments::number_at(penalties, before);
+        if hopeless(p, widest, len, tail, costs[i], best) {
             return Choice {
                 start: FragmentIndex(from),
                 cost: best,
             };
         }
+        i = before;
+        len = len + width_with(words, whites, i);
         let price = start_price(p, targets, costs, len, penalty, i, j, n);
         if price <= best {
             best = price;
@@ -200,22 +214,22 @@ fn best_start(
 }
 
 // The line number of a position: 0 at 0, else one more than that of its chosen start.
-fn line_number(starts: &[u16], position: FragmentIndex) -> usize
-    requires { ⌜ (position .0 < length (now starts)) × Falls (at (now starts)) (position .0) ⌝ }
+fn line_number(starts: &[u16; POSITIONS], position: FragmentIndex) -> usize
+    requires { ⌜ (position .0 < 4097) × Falls (at (now starts)) (position .0) ⌝ }
     ensures { λ r. ⌜ r ≡ lineOf (at (now (starts .entry))) (position .0) ⌝ }
 {
     let j = position.0;
     if j == 0 {
         0
     } else {
-        let start = fragments::number_at(starts, j);
+        let start = starts[j] as usize;
         line_number(starts, FragmentIndex(start)) + 1
     }
 }
 
 // Fills the table, position by position. `targets` holds the wanted width of the line that starts at each
 // position: all alike where there is at most one line width, and else by the position's line number, which
-// is computed once, when its start is chosen.
+// is computed once, when its start is chosen. `chosen` holds the starts for that.
 fn fill_table(
     words: &[u16],
     whites: &[u16],
@@ -223,10 +237,11 @@ fn fill_table(
     widths: &[u16],
     p: Penalties,
     targets: &mut [u16; POSITIONS],
+    chosen: &mut [u16; POSITIONS],
     costs: &mut [u64],
     starts: &mut [u16],
 )
-    requires { ⌜ Fillable (now words) (now whites) (now penalties) (now widths) p (now targets) (now costs) (now starts) ⌝ }
+    requires { ⌜ Fillable (now words) (now whites) (now penalties) (now widths) p (now targets) (now chosen) (now costs) (now starts) ⌝ }
     ensures { λ _. ⌜ (now (costs .exit) ≡ sets (now (costs .entry)) 0 (costsOf (now (words .entry)) (now (whites .entry)) (now (penalties .entry)) (now (widths .entry)) p))
         × (now (starts .exit) ≡ sets (now (starts .entry)) 0 (startsOf (now (words .entry)) (now (whites .entry)) (now (penalties .entry)) (now (widths .entry)) p)) ⌝ }
 {
@@ -238,16 +253,18 @@ fn fill_table(
     while j < n {
         j += 1;
         let best = best_start(words, whites, penalties, p, targets, widest, costs, j);
+        let start = best.start.0 as u16;
         costs[j] = best.cost;
-        starts[j] = best.start.0 as u16;
+        starts[j] = start;
+        chosen[j] = start;
         if 1 < widths.len() {
-            let line = line_number(starts, FragmentIndex(j));
+            let line = line_number(chosen, FragmentIndex(j));
             targets[j] = target_of(widths, line);
         }
     }
 }
 
-// Fills the table, with room of its own for the targets.
+// Fills the table, with room of its own for targets and chosen starts.
 fn fill(
     words: &[u16],
     whites: &[u16],
@@ -263,6 +280,7 @@ fn fill(
 {
     let first = target_of(widths, 0);
     let mut targets = [first; POSITIONS];
+    let mut chosen = [0u16; POSITIONS];
     fill_table(
         words,
         whites,
@@ -270,9 +288,24 @@ fn fill(
         widths,
         p,
         &mut targets,
+        &mut chosen,
         costs,
         starts,
     );
+}
+
+// How many lines end at or before a position.
+fn count_lines(starts: &[u16], n: usize) -> usize
+    requires { ⌜ (n < length (now starts)) × Falls (at (now starts)) n ⌝ }
+    ensures { λ r. ⌜ r ≡ lineOf (at (now (starts .entry))) n ⌝ }
+{
+    let mut lines = 0;
+    let mut end = n;
+    while 0 < end {
+        lines += 1;
+        end = fragments::number_at(starts, end);
+    }
+    lines
 }
 
 // Writes the ends of the lines of n fragments, from the last to the first, and answers how many there
@@ -285,7 +318,7 @@ fn write_ends(starts: &[u16], n: usize, ends: &mut [u16]) -> usize
         fragments::put_end(ends, 0, FragmentIndex(0));
         return 1;
     }
-    let lines = line_number(starts, FragmentIndex(n));
+    let lines = count_lines(starts, n);
     let mut line = lines;
     let mut end = n;
     while 0 < end {
@@ -310,12 +343,12 @@ fn clear(costs: &mut [u64], starts: &mut [u16], n: usize)
 }
 
 // The index of the first penalty above 1,000,000, or 5.
-fn first_big(p: Penalties) -> usize
+pub fn first_big(p: Penalties) -> usize
     ensures { λ r. ⌜ r ≡ firstBig p ⌝ }
 {
     let five = [p.line, p.overflow, p.fraction, p.short, p.hyphen];
     let mut i = 0;
-    while i < 5 {
+    while i < PENALTY_COUNT {
         if PENALTY_MOST < five[i] {
             return i;
         }
@@ -326,7 +359,7 @@ fn first_big(p: Penalties) -> usize
 
 // Whether the search is begun: by what the lists were found to be, the index of the first big penalty, the
 // number of fragments, and the places of ends, costs and starts.
-fn admit(
+pub fn admit(
     tested: Tested,
     big: usize,
     n: usize,
@@ -342,7 +375,7 @@ fn admit(
         Tested::TooMany => Admission::Shut(Laid::TooMany),
         Tested::TooWide(i) => Admission::Shut(Laid::TooWide(i)),
         Tested::Good => {
-            if big < 5 {
+            if big < PENALTY_COUNT {
                 return Admission::Shut(Laid::BigPenalty(big));
             }
             let needed = fragments::places_needed(n);

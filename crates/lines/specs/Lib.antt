@@ -1,3 +1,4 @@
 pub mod Lines
 pub mod Breaks
+pub mod Allowed
 pub mod Walk

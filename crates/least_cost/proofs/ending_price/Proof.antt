@@ -1,11 +1,9 @@
+-- `ending_price`: by whether the penalty width is above 0.
 use borrow.Author.Needs.{needs}
 use Rattle.logic.proofs.Choice.{picks}
 use Rattle.least_cost.specs.Price.{endingPrice}
 use Rattle.least_cost.proofs.ending_price.Statement.{statement}
 use Rattle.least_cost.proofs.ending_price.Tie as tie
-use Rattle.least_cost.proofs.ending_price.Reads as reads
-use Rattle.least_cost.proofs.ending_price.Lts as lts
-use Rattle.least_cost.proofs.wide.Reads as wide-reads
 
 wide-requires : tie.Need-wide-requires
 wide-requires c κs = search needs

@@ -1,11 +1,8 @@
+-- `fill`: with every target that of the first line, the table can be filled.
 use borrow.Author.Needs.{needs}
 use Rattle.least_cost.proofs.Filling.{filling-all}
 use Rattle.least_cost.proofs.fill.Statement.{statement}
 use Rattle.least_cost.proofs.fill.Tie as tie
-use Rattle.least_cost.proofs.fill.Reads as reads
-use Rattle.least_cost.proofs.fill.Lts as lts
-use Rattle.least_cost.proofs.fill_table.Reads as fill-table-reads
-use Rattle.least_cost.proofs.target_of.Reads as target-of-reads
 
 target-of-requires : tie.Need-target-of-requires
 target-of-requires c κs = search needs

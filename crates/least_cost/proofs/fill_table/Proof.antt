@@ -1,33 +1,28 @@
+-- `fill_table`: the table of the positions up to j stands in the lists (`Filling`); the start that `best_start` chooses is the one of the next position.
 use mathlib.Core.Path.{_∙_}
 use Prim.Native.Nat.{_-_}
 use native.Mathlib.Omega.{arith}
 use lib.ListN.{length, length-set}
 use borrow.Author.Needs.{needs}
-use Rattle.least_cost.proofs.Filling.{Filling, filling-start, filling-done, done-falls, filling-many, filling-end, filling}
+use Rattle.least_cost.proofs.Filling.{Filling, filling-start, chosen-falls, filling-done, filling-one, filling-many, filling-end, filling}
 use Rattle.least_cost.proofs.fill_table.Statement.{statement}
 use Rattle.least_cost.proofs.fill_table.Tie as tie
-use Rattle.least_cost.proofs.fill_table.Reads as reads
-use Rattle.least_cost.proofs.fill_table.Lts as lts
-use Rattle.least_cost.proofs.best_start.Reads as best-start-reads
-use Rattle.least_cost.proofs.line_number.Reads as line-number-reads
-use Rattle.least_cost.proofs.target_of.Reads as target-of-reads
-use Rattle.least_cost.proofs.widest_of.Reads as widest-of-reads
 
 abbrev Inv-loop : tie.InvT-loop
-Inv-loop words whites penalties widths p targets₀ costs₀ starts₀ n widest j₀ targets costs starts j =
-    Filling words whites penalties widths p widest costs₀ starts₀ targets costs starts j
+Inv-loop words whites penalties widths p targets₀ chosen₀ costs₀ starts₀ n widest j₀ targets chosen costs starts j =
+    Filling words whites penalties widths p widest costs₀ starts₀ targets chosen costs starts j
 
 abbrev μ-loop : tie.MeasureT-loop
-μ-loop words whites penalties widths p targets₀ costs₀ starts₀ n widest j₀ targets costs starts j = length words - j
+μ-loop words whites penalties widths p targets₀ chosen₀ costs₀ starts₀ n widest j₀ targets chosen costs starts j = length words - j
 
 widest-of-requires : tie.Need-widest-of-requires Inv-loop μ-loop
-widest-of-requires c κs = search (filling, needs)
+widest-of-requires c κs = search needs
 
 slice-write-costs : tie.Need-slice-write-costs Inv-loop μ-loop
-slice-write-costs c = search (filling, needs)
+slice-write-costs c = search needs
 
 slice-write-starts : tie.Need-slice-write-starts Inv-loop μ-loop
-slice-write-starts c = search (filling, needs)
+slice-write-starts c = search needs
 
 loop-holds : tie.Need-loop-holds Inv-loop μ-loop
 loop-holds c =
@@ -44,58 +39,67 @@ loop-holds c =
     (c .widest-of .ensures)
 
 add-j : tie.Need-add-j Inv-loop μ-loop
-add-j c = search (filling, needs)
+add-j c = search needs
 
 best-start-requires : tie.Need-best-start-requires Inv-loop μ-loop
 best-start-requires c κs = search (filling, needs)
 
+cast-start : tie.Need-cast-start Inv-loop μ-loop
+cast-start c = search needs
+
 mul-costs : tie.Need-mul-costs Inv-loop μ-loop
-mul-costs c = search (filling, needs)
+mul-costs c = search needs
 
 slice-write-costs-2 : tie.Need-slice-write-costs-2 Inv-loop μ-loop
-slice-write-costs-2 c = search (filling, needs)
-
-cast-starts : tie.Need-cast-starts Inv-loop μ-loop
-cast-starts c = search (filling, needs)
+slice-write-costs-2 c = search needs
 
 mul-starts : tie.Need-mul-starts Inv-loop μ-loop
-mul-starts c = search (filling, needs)
+mul-starts c = search needs
 
 slice-write-starts-2 : tie.Need-slice-write-starts-2 Inv-loop μ-loop
-slice-write-starts-2 c = search (filling, needs)
+slice-write-starts-2 c = search needs
+
+mul-chosen : tie.Need-mul-chosen Inv-loop μ-loop
+mul-chosen c = search needs
+
+element-write-chosen : tie.Need-element-write-chosen Inv-loop μ-loop
+element-write-chosen c = search needs
 
 line-number-requires : tie.Need-line-number-requires Inv-loop μ-loop
 line-number-requires c κs =
     let at-best = c .before .before .before in
-    let at-loop = at-best .before .before .before .before in
-    let d = filling-done _ _ _ _ _ _ _ _ (at-loop .loop .inv) (search needs) (at-best .best-start .ensures) in
-    (omega (arith, d .place, d .to, d .fixed .place), done-falls _ _ _ _ _ _ _ _ d)
+    let inv = at-best .before .before .before .before .loop .inv in
+    (omega (arith, inv .done .fixed .even .few), chosen-falls _ _ _ _ _ _ _ _ inv (search needs) (at-best .best-start .ensures))
 
 target-of-requires : tie.Need-target-of-requires Inv-loop μ-loop
-target-of-requires c κs = search (filling, needs)
+target-of-requires c κs = search needs
 
 mul-targets : tie.Need-mul-targets Inv-loop μ-loop
-mul-targets c = search (filling, needs)
+mul-targets c = search needs
 
 element-write-targets : tie.Need-element-write-targets Inv-loop μ-loop
-element-write-targets c = search (filling, needs)
+element-write-targets c = search needs
 
 loop-less : tie.Need-loop-less Inv-loop μ-loop
-loop-less c = search (filling, needs)
+loop-less c = search needs
 
 loop-again : tie.Need-loop-again Inv-loop μ-loop
 loop-again c =
     let at-line = c .before in
     let at-best = at-line .before .before .before .before in
-    let at-loop = at-best .before .before .before .before in
-    let d = filling-done _ _ _ _ _ _ _ _ (at-loop .loop .inv) (search needs) (at-best .best-start .ensures) in
-    filling-many _ _ _ _ _ _ _ _ (at-loop .loop .inv) (search needs) d (search needs) (at-line .line-number .ensures) (c .target-of .ensures)
+    let inv = at-best .before .before .before .before .loop .inv in
+    let best = at-best .best-start .ensures in
+    filling-many _ _ _ _ _ _ _ _ inv (search needs) best (filling-done _ _ _ _ _ _ _ _ inv (search needs) best) (search needs) (at-line .line-number .ensures) (c .target-of .ensures)
 
 loop-less-2 : tie.Need-loop-less-2 Inv-loop μ-loop
-loop-less-2 c = search (filling, needs)
+loop-less-2 c = search needs
 
 loop-again-2 : tie.Need-loop-again-2 Inv-loop μ-loop
-loop-again-2 c = search (filling, needs)
+loop-again-2 c =
+    let at-best = c .before .before in
+    let inv = at-best .before .before .before .before .loop .inv in
+    let best = at-best .best-start .ensures in
+    filling-one _ _ _ _ _ _ _ _ inv (search needs) best (filling-done _ _ _ _ _ _ _ _ inv (search needs) best) (search needs)
 
 same-length : tie.Need-same-length Inv-loop μ-loop
 same-length c = c .before .loop .inv .done .room ∙ simp length-set
@@ -120,11 +124,13 @@ fill-table-spec =
     loop-holds
     add-j
     best-start-requires
+    cast-start
     mul-costs
     slice-write-costs-2
-    cast-starts
     mul-starts
     slice-write-starts-2
+    mul-chosen
+    element-write-chosen
     line-number-requires
     target-of-requires
     mul-targets

@@ -1,11 +1,8 @@
+-- `finish`: a cost above the limit leaves zeros, any other the ends of the lines.
 use borrow.Author.Needs.{needs}
 use Rattle.least_cost.proofs.Laying.{finish-dear, finish-laid}
 use Rattle.least_cost.proofs.finish.Statement.{statement}
 use Rattle.least_cost.proofs.finish.Tie as tie
-use Rattle.least_cost.proofs.finish.Reads as reads
-use Rattle.least_cost.proofs.finish.Lts as lts
-use Rattle.least_cost.proofs.clear.Reads as clear-reads
-use Rattle.least_cost.proofs.write_ends.Reads as write-ends-reads
 
 mul-if1 : tie.Need-mul-if1
 mul-if1 c = search needs

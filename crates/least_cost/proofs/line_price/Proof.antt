@@ -1,12 +1,8 @@
+-- `line_price`: the sum of its three parts, which fits.
 use borrow.Author.Needs.{needs}
 use Rattle.least_cost.proofs.Pricing.{pricing, line-whole}
 use Rattle.least_cost.proofs.line_price.Statement.{statement}
 use Rattle.least_cost.proofs.line_price.Tie as tie
-use Rattle.least_cost.proofs.line_price.Reads as reads
-use Rattle.least_cost.proofs.line_price.Lts as lts
-use Rattle.least_cost.proofs.ending_price.Reads as ending-price-reads
-use Rattle.least_cost.proofs.wide.Reads as wide-reads
-use Rattle.least_cost.proofs.width_price.Reads as width-price-reads
 
 wide-requires : tie.Need-wide-requires
 wide-requires c κs = search needs

@@ -1,10 +1,8 @@
+-- `target_of`: by whether the width is below 1.
 use borrow.Author.Needs.{needs}
 use Rattle.least_cost.proofs.Pricing.{target-low, target-high}
 use Rattle.least_cost.proofs.target_of.Statement.{statement}
 use Rattle.least_cost.proofs.target_of.Tie as tie
-use Rattle.least_cost.proofs.target_of.Reads as reads
-use Rattle.least_cost.proofs.target_of.Lts as lts
-use Rattle.fragments.proofs.width_of.Reads as width-of-reads
 
 width-of-requires : tie.Need-width-of-requires
 width-of-requires c κs = search needs

@@ -1,10 +1,8 @@
+-- `width_price`: a law for each case of the price.
 use borrow.Author.Needs.{needs}
 use Rattle.least_cost.proofs.Pricing.{pricing, width-over, width-gap, width-last, width-short, width-long}
 use Rattle.least_cost.proofs.width_price.Statement.{statement}
 use Rattle.least_cost.proofs.width_price.Tie as tie
-use Rattle.least_cost.proofs.width_price.Reads as reads
-use Rattle.least_cost.proofs.width_price.Lts as lts
-use Rattle.least_cost.proofs.wide.Reads as wide-reads
 
 wide-requires : tie.Need-wide-requires
 wide-requires c κs = search needs

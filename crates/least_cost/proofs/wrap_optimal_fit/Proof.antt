@@ -1,15 +1,8 @@
+-- `wrap_optimal_fit`: what the tests have said (`Told`) is the refusal that is answered, or all that the search and the last step ask for.
 use borrow.Author.Needs.{needs}
 use Rattle.least_cost.proofs.Laying.{Told, laying-told, laying-shut, laying-search, laying-write, laying-cost, laying-done}
 use Rattle.least_cost.proofs.wrap_optimal_fit.Statement.{statement}
 use Rattle.least_cost.proofs.wrap_optimal_fit.Tie as tie
-use Rattle.least_cost.proofs.wrap_optimal_fit.Reads as reads
-use Rattle.least_cost.proofs.wrap_optimal_fit.Lts as lts
-use Rattle.fragments.proofs.first_above.Reads as first-above-reads
-use Rattle.fragments.proofs.test_lists.Reads as test-lists-reads
-use Rattle.least_cost.proofs.admit.Reads as admit-reads
-use Rattle.least_cost.proofs.fill.Reads as fill-reads
-use Rattle.least_cost.proofs.finish.Reads as finish-reads
-use Rattle.least_cost.proofs.first_big.Reads as first-big-reads
 
 -- What the tests have said, where the answer of `admit` is looked at.
 told : (c : tie.After-admit) →

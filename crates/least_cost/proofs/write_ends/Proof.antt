@@ -1,12 +1,8 @@
+-- `write_ends`: the ends written and those still to come are all of them (`Writing`).
 use borrow.Author.Needs.{needs}
 use Rattle.least_cost.proofs.Writing.{Writing, lines-none, writing-end, writing}
 use Rattle.least_cost.proofs.write_ends.Statement.{statement}
 use Rattle.least_cost.proofs.write_ends.Tie as tie
-use Rattle.least_cost.proofs.write_ends.Reads as reads
-use Rattle.least_cost.proofs.write_ends.Lts as lts
-use Rattle.fragments.proofs.number_at.Reads as number-at-reads
-use Rattle.fragments.proofs.put_end.Reads as put-end-reads
-use Rattle.least_cost.proofs.line_number.Reads as line-number-reads
 
 abbrev Inv-loop : tie.InvT-loop
 Inv-loop starts n ends₀ lines line₀ end₀ ends line end = Writing starts n ends₀ ends line end
@@ -25,8 +21,8 @@ returns c =
     let at-start = c .before .before .before .before .before .before .before in
     lines-none _ (at-start .args .n) (at-start .args .ends .now) (search needs) (search needs)
 
-line-number-requires : tie.Need-line-number-requires Inv-loop μ-loop
-line-number-requires c κs = search (writing, needs)
+count-lines-requires : tie.Need-count-lines-requires Inv-loop μ-loop
+count-lines-requires c κs = search (writing, needs)
 
 loop-holds : tie.Need-loop-holds Inv-loop μ-loop
 loop-holds c = search (writing, needs)
@@ -61,7 +57,7 @@ write-ends-spec =
     put-end-requires
     same-length
     returns
-    line-number-requires
+    count-lines-requires
     loop-holds
     sub-line
     put-end-requires-2

@@ -1,0 +1,4 @@
+pub mod Stores
+pub mod Laying
+pub mod Widths
+pub mod Entering
