@@ -7,5 +7,7 @@ pub mod Pieces
 pub mod Listing
 pub mod FirstFit
 pub mod LeastCost
+pub mod Fill
+pub mod Check
 pub mod Jobs
 pub mod JobExample
