@@ -1,18 +1,22 @@
 -- JOBS: the replies to a whole input. Whole jobs are answered in order, each as if it stood alone; what comes after them is the end, or gets one last reply. And what the program does at each
 -- record comes to these replies.
-use mathlib.Core.Path.{_≡_, refl, ap, sym, _∙_}
+use mathlib.Core.Path.{_≡_, refl}
 use mathlib.Core.Bool.{false}
 use mathlib.Core.List.{List, [], _∷_, _++_, append-assoc, List·Memᴰ·head, List·Memᴰ·tail}
-use Prim.Native.Nat.{ℕ, _+_, _*_, _≤_, _<_}
+use Prim.Native.Nat.{ℕ, suc, _+_, _*_, _/_, _%_, _≤_, _<_}
 use native.Mathlib.Omega.{arith}
+use lib.Dec.{eqb}
 use lib.ListN.{length, take, drop}
 use borrow.Author.Tests.{lt-ltb, le-ltb}
 use Rattle.units.specs.declared.Answer.{Answer}
 use Rattle.units.specs.Limits.{textMost, widthMost}
 use Rattle.logic.specs.Choice.{pick}
 use Rattle.logic.specs.Member.{_∈_}
+use Rattle.logic.proofs.Choice.{pick-le}
 use Rattle.chars.specs.Utf8.{firstFault, Whole}
 use Rattle.lines.specs.Breaks.{textBreaks, filled}
+use Rattle.lines.proofs.Rising.{differences}
+use Rattle.lines.proofs.Allowed.{breaks-counted}
 use Rattle.fill.specs.Fill.{fillOf, answerOf}
 use Rattle.record.specs.declared.Head.the-variants.{End, Refused, Job}
 use Rattle.record.specs.Record.{headBytes, isJob, headOf, answerTo, textAfter, replyHead, replyOf, settled, bytesOf}
@@ -62,6 +66,21 @@ module _ (w : ℕ) (text : List ℕ) where
     unfolding answerTo textAfter replyOf answerOf fillOf
     filled-text u h =
         rw (le-ltb (length text) (length text) (omega arith), le-ltb textMost (length text) l, le-ltb (firstFault text) (length text) (omega arith), le-ltb widthMost w h)
+
+-- Two bytes are enough for a length, a place and a count: each is at most 65,535, and its bytes give it back.
+differences-few : (s t : List ℕ) → differences s t ≤ length s
+unfolding differences
+differences-few [] t = omega arith
+differences-few (x ∷ s) [] = omega arith
+differences-few (x ∷ s) (y ∷ t) =
+    let i = differences-few s t in
+    pick-le (eqb x y) (differences s t) (suc (differences s t)) (suc (length s)) (omega arith) (omega arith)
+
+pub count-fits : (w : ℕ) (text : List ℕ) → length text ≤ textMost → length (textBreaks w text) ≤ 65535
+count-fits w text l = omega (arith, breaks-counted w text, differences-few text (filled w text))
+
+pub two-bytes : (v : ℕ) → v ≤ 65535 → v / 256 % 256 * 256 + v % 256 ≡ v
+two-bytes v l = omega arith
 
 -- ---- what comes after the whole jobs
 
