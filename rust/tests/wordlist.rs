@@ -5,15 +5,13 @@
 //! given many texts at once, and all that it writes is compared. `KENUPATUN_SEED` and `KENUPATUN_CASES`
 //! set the random cases (see `generate`); `KENUPATUN_RUN` names an emulator, where one is needed.
 
-use std::env;
+mod program;
+
 use std::fmt::Write as _;
-use std::io::Write as _;
-use std::path::{Path, PathBuf};
-use std::process::{Command, Stdio};
 use std::str::from_utf8;
-use std::thread;
 
 use generate::{cases, damage, every_string, seed, text, words, Rng};
+use program::{root, written_on};
 use textwrap::core::Word;
 use textwrap::WordSeparator::AsciiSpace;
 
@@ -25,30 +23,9 @@ const INPUT_MOST: usize = 65_536;
 
 // ---- the program
 
-fn root() -> PathBuf {
-    Path::new(env!("CARGO_MANIFEST_DIR")).join("..")
-}
-
 /// What the program writes.
 fn written(input: &[u8], words: &[String]) -> String {
-    let program = root().join("target/bin/wordlist");
-    assert!(program.is_file(), "there is no {}: run `rt check wordlist` first", program.display());
-    let mut command = match env::var("KENUPATUN_RUN") {
-        Ok(run) if !run.is_empty() => {
-            let mut command = Command::new(run);
-            command.arg(&program);
-            command
-        }
-        _ => Command::new(&program),
-    };
-    let mut child = command.args(words).stdin(Stdio::piped()).stdout(Stdio::piped()).spawn().unwrap();
-    let mut stdin = child.stdin.take().unwrap();
-    let input = input.to_vec();
-    let writer = thread::spawn(move || stdin.write_all(&input));
-    let output = child.wait_with_output().unwrap();
-    writer.join().unwrap().unwrap();
-    assert!(output.status.success(), "{}", output.status);
-    String::from_utf8(output.stdout).unwrap()
+    String::from_utf8(written_on("wordlist", words, vec![input.to_vec()])).unwrap()
 }
 
 // ---- what it must write, said by others
