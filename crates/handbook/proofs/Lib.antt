@@ -11,3 +11,4 @@ pub mod Fill
 pub mod Check
 pub mod Jobs
 pub mod JobExample
+pub mod JobInputs
