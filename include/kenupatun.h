@@ -80,6 +80,18 @@ typedef struct {
 /* The least cost exceeds 2^53; the place is 0. */
 #define KENUPATUN_COST_TOO_LARGE 8
 
+/* The two texts of a check differ in length; the place is 0. */
+#define KENUPATUN_LENGTHS_DIFFER 9
+
+/* A change is not an allowed break; the place is the first such byte. */
+#define KENUPATUN_BAD_CHANGE 10
+
+/* A line of two or more words is too wide; the place is the first byte of the first such line. */
+#define KENUPATUN_LINE_TOO_WIDE 11
+
+/* An input line has more lines than needed; the place is the first byte of the first such one. */
+#define KENUPATUN_TOO_MANY_LINES 12
+
 /*
  * The columns that a text takes on a terminal: 1 for a character below U+1100,
  * 2 for any other, 0 for an escape (from ESC to its end). The count is the columns.
@@ -227,6 +239,21 @@ kenupatun_answer kenupatun_least_cost(const uint8_t *words, size_t words_len, co
  * The count is the bytes changed. Refusals: 1, 2, then 3.
  */
 kenupatun_answer kenupatun_fill(uint8_t *text, size_t text_len, uint32_t width);
+
+/*
+ * Whether `after` is `before` with its lines broken as they may be. The parts of `before`
+ * between newlines are its input lines, and their words are those of kenupatun_words.
+ * Accepted is what has the same length, what differs only where the last space before a
+ * further word of an input line is a newline now, in which each line so formed holds one
+ * word or has, by the widths of its words and the spaces between them, at most `width`
+ * columns, and of which no input line could have fewer lines. What kenupatun_fill writes at
+ * that width is accepted; so is any other layout with as few lines.
+ *
+ * The count is 0. Refusals: 1 for `before`, then for `after`, 2 for `before`, 3, 9, then
+ * 10, 11 and 12, each of the whole text before the next.
+ */
+kenupatun_answer kenupatun_check(const uint8_t *before, size_t before_len, const uint8_t *after, size_t after_len,
+                                 uint32_t width);
 
 #ifdef __cplusplus
 }

@@ -249,6 +249,27 @@ static void fills(void)
     expect("an empty text", kenupatun_fill(text, 0, 0), 0, 0, 0);
 }
 
+#define TEXT(text) (const uint8_t *)(text), sizeof(text) - 1
+
+static void checks(void)
+{
+    static uint8_t text[KENUPATUN_TEXT_MOST + 1];
+
+    expect("a fill that is accepted", kenupatun_check(TEXT("a b c"), TEXT("a b\nc"), 3), 0, 0, 0);
+    expect("another layout that is accepted", kenupatun_check(TEXT("a b c"), TEXT("a\nb c"), 3), 0, 0, 0);
+    expect("texts that differ in length", kenupatun_check(TEXT("a b c"), TEXT("a b"), 3), KENUPATUN_LENGTHS_DIFFER, 0, 0);
+    expect("a change that is no break", kenupatun_check(TEXT("a b c"), TEXT("a b x"), 5), KENUPATUN_BAD_CHANGE, 4, 0);
+    expect("a line that is too wide", kenupatun_check(TEXT("a b c"), TEXT("a\nb c"), 2), KENUPATUN_LINE_TOO_WIDE, 2, 0);
+    expect("too many lines", kenupatun_check(TEXT("x\na b c"), TEXT("x\na\nb\nc"), 3), KENUPATUN_TOO_MANY_LINES, 2, 0);
+    expect("a width that is too large", kenupatun_check(TEXT("a"), TEXT("a"), KENUPATUN_WIDTH_MOST + 1),
+           KENUPATUN_WIDTH_TOO_LARGE, 0, 0);
+    expect("a text before that is cut short", kenupatun_check(TEXT("a \xe4\xbd"), TEXT("a"), 1), KENUPATUN_NOT_UTF8, 2, 0);
+
+    memset(text, 'a', sizeof text);
+    expect("texts of 60,000 bytes", kenupatun_check(text, KENUPATUN_TEXT_MOST, text, KENUPATUN_TEXT_MOST, 0), 0, 0, 0);
+    expect("a text after of 60,001 bytes", kenupatun_check(text, 1, text, sizeof text, 0), KENUPATUN_TEXT_TOO_LONG, 60001, 0);
+}
+
 int main(void)
 {
     measures();
@@ -258,6 +279,7 @@ int main(void)
     first_fits();
     least_costs();
     fills();
+    checks();
     if (failures == 0)
         puts("the header and the archive agree");
     return failures == 0 ? 0 : 1;

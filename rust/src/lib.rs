@@ -18,6 +18,7 @@
 //! | [`first_fit_into`] | [`wrap_first_fit`] | fragments in lines, each line filled as far as it goes |
 //! | [`least_cost_into`] | [`wrap_optimal_fit`] | fragments in lines, at the least cost |
 //! | [`fill()`] | [`fill_inplace`] | a text filled in place: newlines for spaces |
+//! | [`check()`] | (none there: [`check_filled`]) | whether a text is another one, well broken |
 //!
 //! A text is a slice of bytes, because Kenupatun tests by itself that it is UTF-8. A plain form
 //! whose name ends in `_into` takes lists as bytes, and writes into those that it is lent for that.
@@ -45,6 +46,7 @@
 
 #![warn(missing_docs)]
 
+mod check;
 mod fill;
 mod layouts;
 mod raw;
@@ -53,6 +55,7 @@ mod words;
 use std::error::Error;
 use std::fmt;
 
+pub use check::{check, check_filled};
 pub use fill::{fill, fill_inplace};
 pub use layouts::{first_fit_into, least_cost_into, wrap_first_fit, wrap_optimal_fit, Fragment, Penalties};
 pub use words::{

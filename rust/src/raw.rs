@@ -87,4 +87,12 @@ extern "C" {
     ) -> Answer;
 
     pub fn kenupatun_fill(text: *mut u8, text_len: usize, width: u32) -> Answer;
+
+    pub fn kenupatun_check(
+        before: *const u8,
+        before_len: usize,
+        after: *const u8,
+        after_len: usize,
+        width: u32,
+    ) -> Answer;
 }

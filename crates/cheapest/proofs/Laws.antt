@@ -1,5 +1,5 @@
 -- Layouts and the table: the ends on the way back from a position are a layout that costs what the table says, and where the price does not know the line number no layout costs less.
-use mathlib.Core.Path.{_≡_, refl, sym, ap, _∙_}
+use mathlib.Core.Path.{_≡_, refl, sym, ap}
 use mathlib.Core.List.{List, [], _∷_, _++_}
 use Prim.Native.Nat.{ℕ, zero, suc, _+_, _≤_, _<_}
 use native.Mathlib.Nat.{zero-add, le-antisymm, add-zero, add-suc, suc-add}

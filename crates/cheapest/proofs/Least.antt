@@ -1,14 +1,14 @@
 -- The first least: what computes it is what is asked of it, and there is only one.
 use mathlib.Core.Path.{_≡_, refl, sym, _∙_, subst}
-use mathlib.Core.Logic.{_⊎_, ⊎-elim}
-use Prim.Native.Nat.{ℕ, zero, suc, _+_, _≤_, _<_}
+use mathlib.Core.Logic.{⊎-elim}
+use Prim.Native.Nat.{ℕ, zero, suc, _≤_, _<_}
 use native.Mathlib.Decide.{decLt}
 use native.Mathlib.Nat.{le-antisymm, eq-or-lt-of-le}
 use native.Mathlib.Omega.{arith}
 use lib.Dec.{ltb}
 use borrow.Author.Tests.{ltb-true, ltb-false}
 use Rattle.logic.proofs.Choice.{both}
-use Rattle.cheapest.specs.Least.{Cheapest, better, firstLeast}
+use Rattle.cheapest.specs.Least.{Cheapest, firstLeast}
 
 pub cheapest-one : (f : ℕ → ℕ) (v : ℕ) → v ≡ f 0 → Cheapest f 1 0 v
 cheapest-one f v e = record {

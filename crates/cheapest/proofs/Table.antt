@@ -1,15 +1,15 @@
 -- The table: there is one, it is the computed one, and it speaks of the positions up to n alone.
-use mathlib.Core.Path.{_≡_, refl, sym, ap, _∙_, subst}
-use mathlib.Core.Logic.{_⊎_, ⊎-elim}
+use mathlib.Core.Path.{_≡_, refl, sym, _∙_, subst}
+use mathlib.Core.Logic.{⊎-elim}
 use mathlib.Core.List.{List, [], _∷_, _++_}
 use Prim.Native.Nat.{ℕ, zero, suc, _+_, _≤_, _<_}
 use native.Mathlib.Nat.{zero-add, le-antisymm, eq-or-lt-of-le, eq-zero-or-pos}
 use native.Mathlib.Omega.{arith}
 use lib.ListN.{length, length-append, List·getD-append}
 use lib.Seq.{getD-at}
-use Rattle.cheapest.specs.Least.{Cheapest, firstLeast}
-use Rattle.cheapest.specs.Lines.{Falls, lineOf}
-use Rattle.cheapest.specs.Table.{at, via, Table, joined, choice, tableOf, bestCosts, chosenStarts}
+use Rattle.cheapest.specs.Least.{Cheapest}
+use Rattle.cheapest.specs.Lines.{Falls}
+use Rattle.cheapest.specs.Table.{at, via, Table, choice, tableOf, bestCosts, chosenStarts}
 use Rattle.cheapest.proofs.Least.{first-least, cheapest-same, cheapest-unique}
 use Rattle.cheapest.proofs.Lines.{line-same, line-zero}
 

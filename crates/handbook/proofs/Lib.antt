@@ -8,3 +8,4 @@ pub mod Listing
 pub mod FirstFit
 pub mod LeastCost
 pub mod Fill
+pub mod Check

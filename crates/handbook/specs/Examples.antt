@@ -10,6 +10,7 @@ use Rattle.pieces.specs.Pieces.{breakApart}
 use Rattle.first_fit.specs.Groupings.{lineWidth}
 use Rattle.lines.specs.Breaks.{fragmentOf, textBreaks}
 use Rattle.fill.specs.Fill as fill
+use Rattle.judge.specs.Judge as check
 
 -- An answer as number, place and count.
 abbrev pub numbers : Answer → List ℕ
@@ -38,6 +39,10 @@ fillLine text = lineWidth (map fragmentOf (words text)) ∷ []
 abbrev pub filled : ℕ → List ℕ → List ℕ
 filled width text = numbers (fill.answerOf (fill.fillOf width text)) ++ textBreaks width text
 
+-- The check of a text after against the text before.
+abbrev pub checked : ℕ → List ℕ → List ℕ → List ℕ
+checked width before after = numbers (check.answerOf (check.judgeOf width before after))
+
 -- ---- the texts, as bytes
 
 -- `foo bar baz`
@@ -51,6 +56,16 @@ fooBar = 0x66 ∷ 0x6F ∷ 0x6F ∷ 0x20 ∷ 0x20 ∷ 0x62 ∷ 0x61 ∷ 0x72 ∷
 -- `  foo`
 abbrev pub spacesFoo : List ℕ
 spacesFoo = 0x20 ∷ 0x20 ∷ 0x66 ∷ 0x6F ∷ 0x6F ∷ []
+
+-- `a b c`, and with one newline and with two
+abbrev pub abc : List ℕ
+abc = 0x61 ∷ 0x20 ∷ 0x62 ∷ 0x20 ∷ 0x63 ∷ []
+
+abbrev pub abcOne : List ℕ
+abcOne = 0x61 ∷ 0x0A ∷ 0x62 ∷ 0x20 ∷ 0x63 ∷ []
+
+abbrev pub abcTwo : List ℕ
+abcTwo = 0x61 ∷ 0x0A ∷ 0x62 ∷ 0x0A ∷ 0x63 ∷ []
 
 -- `Hello!  `
 abbrev pub hello : List ℕ
@@ -92,10 +107,14 @@ given =
     ∷ filled 3 fooBar
     ∷ filled 3 spacesFoo
     ∷ filled 0 []
+    ∷ checked 3 abc abcOne
+    ∷ checked 3 abc abcTwo
+    ∷ checked 3 abc abc
     ∷ []
 
 -- measuring: 0 is success, with place 0; the count is the columns. `ab ` ESC `]cd ef` measures 3, but its words 2, 0, 2. `Hello!  ` broken at 3: `Hel`, `lo!` with two spaces.
 -- `ab ` ESC `]cd ef` as a fill line is 6 wide. Filling: 0, place 0, the count, and the bytes changed: 7 of `foo bar baz` at 7, 4 of `foo  bar` at 3, 1 of `  foo` at 3, none of the empty text
+-- Check of `a b c` at 3: `a`⏎`b c` accepted, `a`⏎`b`⏎`c` 12, unchanged 11
 abbrev pub wanted : List (List ℕ)
 wanted =
     (0 ∷ 0 ∷ 10 ∷ [])
@@ -110,4 +129,7 @@ wanted =
     ∷ (0 ∷ 0 ∷ 1 ∷ 4 ∷ [])
     ∷ (0 ∷ 0 ∷ 1 ∷ 1 ∷ [])
     ∷ (0 ∷ 0 ∷ 0 ∷ [])
+    ∷ (0 ∷ 0 ∷ 0 ∷ [])
+    ∷ (12 ∷ 0 ∷ 0 ∷ [])
+    ∷ (11 ∷ 0 ∷ 0 ∷ [])
     ∷ []

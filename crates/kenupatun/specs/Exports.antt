@@ -25,6 +25,7 @@ use Rattle.least_cost.specs.declared.Penalties.{Penalties}
 use Rattle.least_cost.specs.Layout.{costsOf, startsOf, endsOfLines, laidOf, endsAfter, scratchAfter}
 use Rattle.fill.specs.declared.Filled.{Filled}
 use Rattle.fill.specs.Fill as fills
+use Rattle.judge.specs.Judge as judges
 use Rattle.kenupatun.specs.declared.WordAnswer.{WordAnswer}
 
 abbrev pub measured : List ℕ → Answer
@@ -115,3 +116,7 @@ fillAnswer answer = fills.answerOf answer
 
 abbrev pub fillLeft : Filled → ℕ → List ℕ → List ℕ
 fillLeft answer width text = fills.leaves answer width text
+
+-- The check's numbers.
+abbrev pub judged : ℕ → List ℕ → List ℕ → Answer
+judged width before after = judges.answerOf (judges.judgeOf width before after)

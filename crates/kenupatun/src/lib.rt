@@ -7,7 +7,7 @@ ghost use Rattle.words.specs.Lists.{startOf, endOf, whiteOf, widthOfWord};
 ghost use Rattle.pieces.specs.Pieces.{breakApart, breakWords};
 ghost use Rattle.kenupatun.specs.Exports.{measured, found, foundAnswer, wordMade, withWord, noWord, wordIn, brokenWord, brokenWords, brokenAnswer, wordsLeft, piecesLeft};
 ghost use Rattle.wire.specs.Wire.{numbers16};
-ghost use Rattle.kenupatun.specs.Exports.{firstFit, laidAnswer, firstFitLeft, five, LeastCost, fill, fillAnswer, fillLeft};
+ghost use Rattle.kenupatun.specs.Exports.{firstFit, laidAnswer, firstFitLeft, five, LeastCost, fill, fillAnswer, fillLeft, judged};
 use least_cost::Penalties;
 use pieces::OneWord;
 use units::Answer;
@@ -201,4 +201,13 @@ pub extern "C" fn kenupatun_fill(text: &mut [u8], width: u32) -> Answer
     ensures { λ _. ⌜ now (text .exit) ≡ fillLeft (fill width (now (text .entry))) width (now (text .entry)) ⌝ }
 {
     fill::answer_of(fill::fill_inplace(text, width))
+}
+
+// Whether a text after is accepted against the text before at a width; or refusal 1, 2, 3, 9, 10, 11 or
+// 12.
+#[no_mangle]
+pub extern "C" fn kenupatun_check(before: &[u8], after: &[u8], width: u32) -> Answer
+    ensures { λ r. ⌜ r ≡ judged width (now (before .entry)) (now (after .entry)) ⌝ }
+{
+    judge::answer_of(judge::check(before, after, width))
 }

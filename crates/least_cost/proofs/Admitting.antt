@@ -1,15 +1,11 @@
 -- Whether the search is begun: a law for each way through the tests, and what is known where it is.
-use mathlib.Core.Path.{_≡_, refl, sym, _∙_}
-use mathlib.Core.List.{List, [], _∷_}
+use mathlib.Core.Path.{_≡_}
 use Prim.Native.Nat.{ℕ, _+_, _≤_, _<_, min, max}
 use native.Mathlib.Omega.{arith}
-use lib.Dec.{ltb, eqb}
-use lib.ListN.{length}
 use borrow.Author.Tests.{lt-ltb, le-ltb}
 use Rattle.fragments.specs.declared.Tested.{Tested}
 use Rattle.fragments.specs.declared.Tested.the-variants as tested
 use Rattle.fragments.specs.declared.Laid.the-variants.{Unequal, TooMany, TooWide, BigPenalty, NoRoom}
-use Rattle.least_cost.specs.declared.Admission.{Admission}
 use Rattle.least_cost.specs.declared.Admission.the-variants.{Open, Shut}
 use Rattle.least_cost.specs.Layout.{admissionOf}
 

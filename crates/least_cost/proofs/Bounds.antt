@@ -1,5 +1,5 @@
 -- No line costs more than 2^50, and so no position: numbers of 16 bits, at most 4,096 fragments and penalties up to 1,000,000.
-use mathlib.Core.Path.{_≡_, refl}
+use mathlib.Core.Path.{_≡_}
 use mathlib.Core.Logic.{⊎-elim}
 use mathlib.Core.List.{List, [], _∷_}
 use Prim.Native.Nat.{ℕ, zero, suc, _+_, _-_, _*_, _^_, _≤_, _<_, min}
@@ -7,13 +7,12 @@ use native.Mathlib.Nat.{eq-zero-or-pos}
 use native.Mathlib.Omega.{arith}
 use lib.Dec.{ltb, eqb}
 use lib.ListN.{length, getD, take, drop}
-use lib.Seq.{slice}
 use Rattle.logic.proofs.Choice.{pick-le}
 use Rattle.fragments.specs.Lists.{widthOf}
-use Rattle.cheapest.specs.Table.{at, Table}
+use Rattle.cheapest.specs.Table.{Table}
 use Rattle.cheapest.proofs.Table.{table-bound}
 use Rattle.least_cost.specs.declared.Penalties.{Penalties}
-use Rattle.least_cost.specs.Price.{total, lineLen, target, widthPrice, endingPrice, linePrice, priceAt, price}
+use Rattle.least_cost.specs.Price.{total, lineLen, target, widthPrice, linePrice, priceAt, price}
 use Rattle.least_cost.specs.Search.{Small}
 use Rattle.least_cost.proofs.Pricing.{over, square, ending-cap}
 

@@ -1,8 +1,8 @@
 -- The table as it is filled: what holds at the head of the loop, and a law for each way into, round and out of it.
-use mathlib.Core.Path.{_≡_, refl, sym, ap, _∙_, subst}
+use mathlib.Core.Path.{_≡_, refl, sym, ap, _∙_}
 use mathlib.Core.Logic.{⊎-elim, _≢_}
-use mathlib.Core.List.{List, [], _∷_, _++_}
-use Prim.Native.Nat.{ℕ, zero, suc, _+_, _-_, _^_, _≤_, _<_, min, max}
+use mathlib.Core.List.{List, []}
+use Prim.Native.Nat.{ℕ, suc, _+_, _-_, _^_, _≤_, _<_, min, max}
 use native.Mathlib.Nat.{eq-or-lt-of-le}
 use native.Mathlib.Numerals.{add-one}
 use native.Mathlib.Omega.{arith}
@@ -15,7 +15,7 @@ use Rattle.cheapest.specs.Table.{at, via, bestCosts, chosenStarts}
 use Rattle.cheapest.proofs.Lines.{line-same, line-zero}
 use Rattle.cheapest.proofs.Table.{table-falls, costs-length, starts-length, table-computed, costs-none, starts-none, grown-same, chosen}
 use Rattle.least_cost.specs.declared.Penalties.{Penalties}
-use Rattle.least_cost.specs.Price.{target, priceAt, price}
+use Rattle.least_cost.specs.Price.{target, price}
 use Rattle.least_cost.specs.Layout.{costsOf, startsOf}
 use Rattle.least_cost.specs.Search.{Small, Even, Ready, Widest, Searchable, Fillable, startPrice}
 use Rattle.least_cost.proofs.Bounds.{Short, cost-cap}
@@ -67,17 +67,6 @@ module _ (w s p ws : List ℕ) (P : Penalties) (widest : ℕ) (C₀ S₀ : List 
     cost-at k l =
         let n = costs-length (price w s p ws P) j in
         rw (d .costs) (sets-at C₀ (bestCosts (price w s p ws P) j) k (omega arith) (omega (arith, d .to, d .fixed .room)))
-
-    start-at : (k : ℕ) → k ≤ j → at S k ≡ at (chosenStarts (price w s p ws P) j) k
-    start-at k l =
-        let n = starts-length (price w s p ws P) j in
-        rw (d .starts) (sets-at S₀ (chosenStarts (price w s p ws P) j) k (omega arith) (omega (arith, d .to, d .fixed .place)))
-
-    -- Each chosen start is smaller, in the list as in the table.
-    pub done-falls : Falls (at S) j
-    done-falls k z l =
-        let q = price w s p ws P in
-        rw (start-at k l) (table-falls q j (at (bestCosts q j)) (at (chosenStarts q j)) (table-computed q j) k z l)
 
     cheap-at : (k : ℕ) → k ≤ j → at C k ≤ 2 ^ 50
     cheap-at k l =

@@ -7,20 +7,23 @@ use native.Mathlib.Omega.{arith}
 use lib.Dec.{ltb}
 use lib.ListN.{length}
 use borrow.Author.Tests.{le-ltb}
-use Rattle.units.specs.Limits.{widthMost, costMost}
+use Rattle.units.specs.Limits.{widthMost, fragmentsMost, costMost}
+use Rattle.logic.specs.Choice.{pick}
+use Rattle.logic.proofs.Choice.{both}
 use Rattle.fragments.specs.Lists.{firstAbove, testedOf}
 use Rattle.fragments.specs.declared.Tested.{Tested}
+use Rattle.fragments.specs.declared.Laid.{Laid}
 use Rattle.fragments.specs.declared.Laid.the-variants.{Lines, TooDear}
-use Rattle.cheapest.specs.Lines.{Rises, costOf, lineOf, endsOf}
-use Rattle.cheapest.specs.Table.{at, Table, bestCosts, chosenStarts}
+use Rattle.cheapest.specs.Lines.{Rises, costOf, endsOf}
+use Rattle.cheapest.specs.Table.{at, Table}
 use Rattle.cheapest.proofs.Lines.{ends-length, line-le}
 use Rattle.cheapest.proofs.Table.{table-computed, costs-length, starts-length}
 use Rattle.cheapest.proofs.Laws.{Back, back, least-of-all}
 use Rattle.least_cost.specs.declared.Penalties.{Penalties}
 use Rattle.least_cost.specs.declared.Admission.{Admission}
 use Rattle.least_cost.specs.declared.Admission.the-variants.{Open, Shut}
-use Rattle.least_cost.specs.Price.{target, priceAt, price}
-use Rattle.least_cost.specs.Layout.{firstBig, admissionOf, linesOf, laidFrom, costsOf, startsOf, endsOfLines, laidOf}
+use Rattle.least_cost.specs.Price.{priceAt, price}
+use Rattle.least_cost.specs.Layout.{firstBig, admissionOf, linesOf, laidFrom, scratchAfter, costsOf, startsOf, endsOfLines, laidOf}
 use Rattle.least_cost.specs.Search.{Small}
 use Rattle.least_cost.proofs.Bounds.{Short, cost-cap}
 use Rattle.least_cost.proofs.Filling.{one-target}
@@ -78,6 +81,55 @@ module _ (w s p ws : List ℕ) (P : Penalties) where
   pub least-over-all : length ws ≤ 1 → (es : List ℕ) → Rises 0 es (length w) → at (costsOf w s p ws P) (length w) ≤ costOf (price w s p ws P) 0 0 es
   least-over-all h = least-of-all (price w s p ws P) (length w) (at (costsOf w s p ws P)) (at (startsOf w s p ws P)) scratch-table (one-width h)
 
+  -- An answer that writes to the scratch says that the search was begun, and it is that of the last step.
+  tests : Tested
+  tests = testedOf (length w) (length s) (length p) (firstAbove widthMost ws) (length ws)
+
+  begun : (ends costs starts : ℕ) (r : Laid) → scratchAfter r (0 ∷ []) (1 ∷ []) ≡ 0 ∷ [] → laidOf w s p ws P ends costs starts ≡ r
+      → Opened tests (firstBig P) (length w) ends costs starts × (pick (ltb costMost (at (costsOf w s p ws P) (length w))) TooDear (Lines (length (endsOfLines w s p ws P))) ≡ r)
+  unfolding laidOf tests
+  begun ends costs starts r writes = go (admissionOf tests (firstBig P) (length w) ends costs starts) refl
+    where
+      go : (a : Admission) → a ≡ admissionOf tests (firstBig P) (length w) ends costs starts → laidFrom a (at (costsOf w s p ws P) (length w)) (length (endsOfLines w s p ws P)) ≡ r
+          → Opened tests (firstBig P) (length w) ends costs starts × (pick (ltb costMost (at (costsOf w s p ws P) (length w))) TooDear (Lines (length (endsOfLines w s p ws P))) ≡ r)
+      go (Shut why) e h =
+          let k = shut-keeps tests (firstBig P) (length w) ends costs starts why e (0 ∷ []) (1 ∷ []) .1 in
+          let z : _≡_ {A = List ℕ} (1 ∷ []) (0 ∷ []) = (rw h at k) ∙ writes in
+          never (cc)
+      go Open e h = (open-says tests (firstBig P) (length w) ends costs starts e, h)
+
+  alike : {big ends costs starts : ℕ} → Opened tests big (length w) ends costs starts → (length s ≡ length w) × (length p ≡ length w) × (length w ≤ fragmentsMost)
+  unfolding tests
+  alike o = good-says (length w) (length s) (length p) (firstAbove widthMost ws) (length ws) (sym (o .good))
+
+  -- What an answer of k lines says: that is how many ends there are, and every list has the places that are written.
+  pub record Fitting (k ends costs starts : ℕ) : Type 0 where
+    pub count : k ≡ length (endsOfLines w s p ws P)
+    pub whites : length s ≡ length w
+    pub penalties : length p ≡ length w
+    pub few : length w ≤ fragmentsMost
+    pub room : length (endsOfLines w s p ws P) ≤ ends
+    pub places : length w + 1 ≤ costs
+    pub others : length w + 1 ≤ starts
+
+  pub lines-fit : (k ends costs starts : ℕ) → laidOf w s p ws P ends costs starts ≡ Lines k → Fitting k ends costs starts
+  lines-fit k ends costs starts h =
+      let b = begun ends costs starts (Lines k) refl h in
+      let g = alike (b .0) in
+      both (ltb costMost (at (costsOf w s p ws P) (length w)))
+      (λ t. let z : TooDear ≡ Lines k = rw t at (b .1) in never (cc))
+      (λ t.
+      let z : Lines (length (endsOfLines w s p ws P)) ≡ Lines k = rw t at (b .1) in
+      record {
+        count = cc;
+        whites = g .0;
+        penalties = g .1;
+        few = g .2;
+        room = omega (arith, ends-few, b .0 .room);
+        places = omega (arith, b .0 .scratch);
+        others = omega (arith, b .0 .scratch);
+      })
+
   -- Numbers of 16 bits: the least cost is at most 2^50 wherever the search is begun, so refusal 8 never comes.
   module _ (hw : Short w) (hs : Short s) (hp : Short p) (hws : Short ws) where
     pub least-cap : length w ≤ 4096 → Small P → at (costsOf w s p ws P) (length w) ≤ 2 ^ 50
@@ -85,20 +137,8 @@ module _ (w s p ws : List ℕ) (P : Penalties) where
         cost-cap w s p ws P hw hs hp hws small (length w) (at (costsOf w s p ws P)) (at (startsOf w s p ws P)) scratch-table few (length w) (omega arith)
 
     pub never-dear : (ends costs starts : ℕ) → laidOf w s p ws P ends costs starts ≡ TooDear → ⊥
-    unfolding laidOf
-    never-dear ends costs starts = go (admissionOf t (firstBig P) (length w) ends costs starts) refl
-      where
-        t : Tested
-        t = testedOf (length w) (length s) (length p) (firstAbove widthMost ws) (length ws)
-
-        go : (a : Admission) → a ≡ admissionOf t (firstBig P) (length w) ends costs starts → laidFrom a (at (costsOf w s p ws P) (length w)) (length (endsOfLines w s p ws P)) ≡ TooDear → ⊥
-        go (Shut why) e h =
-            let k = shut-keeps t (firstBig P) (length w) ends costs starts why e (0 ∷ []) (1 ∷ []) .1 in
-            let z : _≡_ {A = List ℕ} (1 ∷ []) (0 ∷ []) = rw h at k in
-            never (cc)
-        go Open e h =
-            let o = open-says t (firstBig P) (length w) ends costs starts e in
-            let g = good-says (length w) (length s) (length p) (firstAbove widthMost ws) (length ws) (sym (o .good)) in
-            let b : at (costsOf w s p ws P) (length w) ≤ costMost = omega (arith, least-cap (g .2) (small-says P (o .cheap))) in
-            let z : Lines (length (endsOfLines w s p ws P)) ≡ TooDear = rw (le-ltb costMost (at (costsOf w s p ws P) (length w)) b) at h in
-            never (cc)
+    never-dear ends costs starts h =
+        let b = begun ends costs starts TooDear refl h in
+        let l : at (costsOf w s p ws P) (length w) ≤ costMost = omega (arith, least-cap (alike (b .0) .2) (small-says P (b .0 .cheap))) in
+        let z : Lines (length (endsOfLines w s p ws P)) ≡ TooDear = rw (le-ltb costMost (at (costsOf w s p ws P) (length w)) l) at (b .1) in
+        never (cc)

@@ -1,13 +1,13 @@
 -- The last step and the whole entry: what is known where the search is begun, and the promise of each way through.
 use mathlib.Core.Path.{_≡_, refl, sym, ap, _∙_}
 use mathlib.Core.Bool.{Bool, true, false}
-use mathlib.Core.List.{List, [], _∷_}
+use mathlib.Core.List.{List}
 use Prim.Native.Nat.{ℕ, zero, suc, _+_, _≤_, _<_, min, max}
 use native.Mathlib.Omega.{arith}
 use lib.Dec.{ltb, leb, eqb}
 use lib.ListN.{length, getD, replicate, length-replicate}
 use lib.Seq.{sets, length-sets}
-use borrow.Author.Tests.{lt-ltb, le-ltb, ltb-true, ltb-false, eqb-true, leb-true}
+use borrow.Author.Tests.{lt-ltb, le-ltb, ltb-false, eqb-true, leb-true}
 use Rattle.units.specs.Limits.{widthMost, costMost}
 use Rattle.logic.specs.Choice.{pick}
 use Rattle.logic.proofs.Choice.{both}
@@ -17,7 +17,7 @@ use Rattle.fragments.specs.declared.Tested.{Tested}
 use Rattle.fragments.specs.declared.Tested.the-variants as tested
 use Rattle.fragments.specs.declared.Laid.{Laid}
 use Rattle.fragments.specs.declared.Laid.the-variants.{Lines, Unequal, TooMany, TooWide, BigPenalty, NoRoom, TooDear}
-use Rattle.cheapest.specs.Lines.{Falls, endsOf}
+use Rattle.cheapest.specs.Lines.{Falls}
 use Rattle.cheapest.specs.Table.{at, bestCosts, chosenStarts}
 use Rattle.cheapest.proofs.Lines.{ends-same}
 use Rattle.cheapest.proofs.Table.{table-falls, table-computed, costs-length, starts-length}
@@ -25,7 +25,7 @@ use Rattle.least_cost.specs.declared.Penalties.{Penalties}
 use Rattle.least_cost.specs.declared.Admission.{Admission}
 use Rattle.least_cost.specs.declared.Admission.the-variants.{Open, Shut}
 use Rattle.least_cost.specs.Price.{price}
-use Rattle.least_cost.specs.Layout.{five, firstBig, admissionOf, linesOf, laidFrom, endsAfter, scratchAfter, costsOf, startsOf, endsOfLines, laidOf, Laying}
+use Rattle.least_cost.specs.Layout.{five, firstBig, admissionOf, linesOf, endsAfter, scratchAfter, costsOf, startsOf, endsOfLines, laidOf, Laying}
 use Rattle.least_cost.specs.Search.{Small, Even, Searchable, Writable, clearedBy, Finished}
 use Rattle.least_cost.proofs.Stores.{sets-at, sets-over}
 

@@ -1,9 +1,9 @@
 -- The search of one position, from its last start downwards: what holds at the head of the loop, and a law for each way into, round and out of it.
 use mathlib.Core.Bool.{true, false}
-use mathlib.Core.Path.{_≡_, refl, sym, ap, _∙_, subst}
+use mathlib.Core.Path.{_≡_, sym, ap, _∙_, subst}
 use mathlib.Core.Logic.{⊎-elim}
-use mathlib.Core.List.{List, [], _∷_}
-use Prim.Native.Nat.{ℕ, zero, suc, _+_, _-_, _*_, _^_, _≤_, _<_, max}
+use mathlib.Core.List.{List}
+use Prim.Native.Nat.{ℕ, suc, _+_, _-_, _*_, _^_, _≤_, _<_, max}
 use native.Mathlib.Nat.{eq-or-lt-of-le, mul-le-mul, le-refl, mul-add}
 use native.Mathlib.Decide.{decLt}
 use native.Mathlib.Omega.{arith}
@@ -15,7 +15,7 @@ use Rattle.cheapest.specs.Least.{Cheapest}
 use Rattle.cheapest.specs.Table.{at}
 use Rattle.least_cost.specs.declared.Penalties.{Penalties}
 use Rattle.least_cost.specs.Price.{lineLen, widthPrice, endingPrice, linePrice, priceAt}
-use Rattle.least_cost.specs.Search.{Small, Sized, Priceable, Weighable, Hopeless, Even, Ready, startPrice}
+use Rattle.least_cost.specs.Search.{Priceable, Weighable, Hopeless, Ready, startPrice}
 use Rattle.least_cost.proofs.Lengths.{len-one, len-more, len-grows, len-split}
 
 -- No price is below its overflow.

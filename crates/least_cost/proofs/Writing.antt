@@ -1,11 +1,10 @@
 -- The ends as they are written, from the last to the first: what stands there and the ends still to come are all of them.
 use mathlib.Core.Path.{_≡_, refl, sym, ap, _∙_}
-use mathlib.Core.List.{List, [], _∷_, _++_}
+use mathlib.Core.List.{List}
 use Prim.Native.Nat.{ℕ, zero, suc, _+_, _-_, _≤_, _<_}
-use native.Mathlib.Numerals.{add-one}
 use native.Mathlib.Omega.{arith}
 use lib.ListN.{length, set, replicate, length-set, length-replicate, replicate-append-replicate}
-use lib.Seq.{sets, length-sets}
+use lib.Seq.{sets}
 use Rattle.cheapest.specs.Lines.{Falls, lineOf, endsOf}
 use Rattle.cheapest.specs.Table.{at}
 use Rattle.cheapest.proofs.Lines.{line-next, line-le, line-zero, ends-zero, ends-next, ends-length}

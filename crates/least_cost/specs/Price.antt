@@ -1,5 +1,5 @@
 -- Document 01, "Layouts": what a line costs. w, s and p are the word, whitespace and penalty widths of the fragments, ws the line widths, P the penalties.
-use Prim.Native.Nat.{ℕ, _+_, _-_, _*_, _≤_, _<_, max}
+use Prim.Native.Nat.{ℕ, _+_, _-_, _*_, max}
 use mathlib.Core.List.{List, [], _∷_}
 use lib.Dec.{ltb, eqb}
 use lib.ListN.{length, getD}

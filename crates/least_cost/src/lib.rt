@@ -2,8 +2,8 @@
 // price is least, the smallest of equals. The lines and what they cost are by the definitions of `specs/`;
 // nothing here knows texts.
 ghost use mathlib.Core.Path.{_≡_};
-ghost use mathlib.Core.Bool.{Bool, true};
-ghost use Prim.Native.Nat.{ℕ, _+_, _-_, _*_, _^_, _≤_, _<_, max};
+ghost use mathlib.Core.Bool.{true};
+ghost use Prim.Native.Nat.{_+_, _*_, _^_, _≤_, _<_, max};
 ghost use lib.ListN.{length, getD, replicate};
 ghost use lib.Seq.{sets};
 ghost use Rattle.cheapest.specs.Least.{Cheapest};
@@ -11,8 +11,7 @@ ghost use Rattle.cheapest.specs.Lines.{Falls, lineOf};
 ghost use Rattle.cheapest.specs.Table.{at};
 ghost use Rattle.least_cost.specs.Price.{target, widthPrice, endingPrice, linePrice};
 ghost use Rattle.least_cost.specs.Layout.{firstBig, admissionOf, linesOf, costsOf, startsOf, Laying};
-ghost use Rattle.least_cost.specs.Search.{Sized, Priceable, Weighable, Hopeless, Even, Ready, Widest, Searchable, Fillable, Writable, startPrice};
-ghost use Rattle.least_cost.specs.Search.{Finished};
+ghost use Rattle.least_cost.specs.Search.{Sized, Priceable, Weighable, Hopeless, Ready, Widest, Searchable, Fillable, Writable, Finished, startPrice};
 use fragments::Laid;
 use fragments::Tested;
 use units::COST_MOST;
@@ -23,7 +22,11 @@ use units::WIDTH_MOST;
 // The positions before, between and after the most fragments.
 const POSITIONS: usize = 4097;
 
-// The five penalties, in document 01's order.
+// How many penalties there are.
+const PENALTY_COUNT: usize = 5;
+
+// The penalties in document 01's order: per line, overflow, short-last-line fraction, short last line,
+// hyphen.
 pub struct Penalties {
     pub line: u32,
     pub overflow: u32,
@@ -345,7 +348,7 @@ pub fn first_big(p: Penalties) -> usize
 {
     let five = [p.line, p.overflow, p.fraction, p.short, p.hyphen];
     let mut i = 0;
-    while i < 5 {
+    while i < PENALTY_COUNT {
         if PENALTY_MOST < five[i] {
             return i;
         }
@@ -372,7 +375,7 @@ pub fn admit(
         Tested::TooMany => Admission::Shut(Laid::TooMany),
         Tested::TooWide(i) => Admission::Shut(Laid::TooWide(i)),
         Tested::Good => {
-            if big < 5 {
+            if big < PENALTY_COUNT {
                 return Admission::Shut(Laid::BigPenalty(big));
             }
             let needed = fragments::places_needed(n);

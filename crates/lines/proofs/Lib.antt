@@ -1,4 +1,5 @@
 pub mod Laws
+pub mod Bodies
 pub mod Walk
 pub mod Breaking
 pub mod Rising

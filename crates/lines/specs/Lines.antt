@@ -2,7 +2,7 @@
 use Prim.Native.Nat.{ℕ, suc, _+_}
 use mathlib.Core.Bool.{Bool, not}
 use mathlib.Core.List.{List}
-use lib.Dec.{eqb}
+use lib.Dec.{eqb, ltb}
 use lib.ListN.{length, drop}
 use lib.Seq.{slice}
 use Rattle.logic.specs.Count.{count}
@@ -21,6 +21,10 @@ lineEnd s i = i + count inLine (drop i s)
 -- Where the body of that line ends, which is what words are found in: the whole line is its body.
 unfoldable pub bodyEnd : List ℕ → ℕ → ℕ
 bodyEnd s i = lineEnd s i
+
+-- Whether a place lies in the body of its input line.
+unfoldable pub inBody : List ℕ → ℕ → Bool
+inBody s p = ltb p (bodyEnd s p)
 
 -- The next input line starts after the newline.
 unfoldable pub nextLine : List ℕ → ℕ → ℕ

@@ -6,7 +6,7 @@ ghost use Prim.Native.Nat.{_≤_, _<_};
 ghost use lib.ListN.{length, drop};
 ghost use Rattle.units.specs.Limits.{textMost};
 ghost use Rattle.chars.specs.Utf8.{Whole};
-ghost use Rattle.lines.specs.Lines.{newline, inLine, lineEnd, bodyEnd};
+ghost use Rattle.lines.specs.Lines.{newline, inLine, lineEnd, bodyEnd, inBody};
 ghost use Rattle.lines.specs.Walk.{metAt, startsAt};
 use units::Columns;
 use units::Offset;
@@ -55,6 +55,16 @@ pub fn body_end(text: &[u8], from: usize, end: usize) -> usize
     ensures { λ r. ⌜ r ≡ bodyEnd (now (text .entry)) from ⌝ }
 {
     end
+}
+
+// Whether a place lies in the body of its input line.
+pub fn in_body(text: &[u8], at: usize) -> bool
+    ensures { λ r. ⌜ r ≡ inBody (now (text .entry)) at ⌝ }
+{
+    if at < text.len() {
+        return in_line(text[at]);
+    }
+    false
 }
 
 // The word that starts at a place of a line that is UTF-8 from there on.

@@ -5,28 +5,28 @@ use Rattle.least_cost.proofs.admit.Statement.{statement}
 use Rattle.least_cost.proofs.admit.Tie as tie
 
 enum-told : tie.Need-enum-told
-enum-told c = search (admitting, needs)
+enum-told c = search needs
 
 enum-told-2 : tie.Need-enum-told-2
-enum-told-2 c = search (admitting, needs)
+enum-told-2 c = search needs
 
 enum-known-tested : tie.Need-enum-known-tested
-enum-known-tested c = search (admitting, needs)
+enum-known-tested c = search needs
 
 enum-told-3 : tie.Need-enum-told-3
-enum-told-3 c = search (admitting, needs)
+enum-told-3 c = search needs
 
 returns : tie.Need-returns
 returns c = search (admitting, needs)
 
 places-needed-requires : tie.Need-places-needed-requires
-places-needed-requires c κs = search (admitting, needs)
+places-needed-requires c κs = search needs
 
 returns-2 : tie.Need-returns-2
 returns-2 c = search (admitting, needs)
 
 add-places : tie.Need-add-places
-add-places c = search (admitting, needs)
+add-places c = search needs
 
 returns-3 : tie.Need-returns-3
 returns-3 c = search (admitting, needs)

@@ -12,13 +12,13 @@ abbrev μ-loop : tie.MeasureT-loop
 μ-loop words whites penalties p targets widest costs j n last penalty len₀ best₀ from₀ i₀ len best from i = i
 
 sub-last : tie.Need-sub-last Inv-loop μ-loop
-sub-last c = search (pulling, needs)
+sub-last c = search needs
 
 number-at-requires : tie.Need-number-at-requires Inv-loop μ-loop
-number-at-requires c κs = search (pulling, needs)
+number-at-requires c κs = search needs
 
 width-with-requires : tie.Need-width-with-requires Inv-loop μ-loop
-width-with-requires c κs = search (pulling, needs)
+width-with-requires c κs = search needs
 
 start-price-requires : tie.Need-start-price-requires Inv-loop μ-loop
 start-price-requires c κs =
@@ -28,16 +28,16 @@ loop-holds : tie.Need-loop-holds Inv-loop μ-loop
 loop-holds c = search (pulling, needs)
 
 sub-before : tie.Need-sub-before Inv-loop μ-loop
-sub-before c = search (pulling, needs)
+sub-before c = search needs
 
 number-at-requires-2 : tie.Need-number-at-requires-2 Inv-loop μ-loop
-number-at-requires-2 c κs = search (pulling, needs)
+number-at-requires-2 c κs = search needs
 
 mul-hopeless : tie.Need-mul-hopeless Inv-loop μ-loop
-mul-hopeless c = search (pulling, needs)
+mul-hopeless c = search needs
 
 shared-slice-read-hopeless : tie.Need-shared-slice-read-hopeless Inv-loop μ-loop
-shared-slice-read-hopeless c = search (pulling, needs)
+shared-slice-read-hopeless c = search needs
 
 hopeless-requires : tie.Need-hopeless-requires Inv-loop μ-loop
 hopeless-requires c κs = pulled-weigh _ _ _ _ _ _ _ _ (c .before .before .before .loop .inv) (search needs)
@@ -49,10 +49,10 @@ returns c =
     pulled-cut _ _ _ _ _ _ _ _ inv (search needs) (at-tail .number-at2 .ensures .0) (c .before .hopeless .ensures (c .if1 .taken))
 
 width-with-requires-2 : tie.Need-width-with-requires-2 Inv-loop μ-loop
-width-with-requires-2 c κs = search (pulling, needs)
+width-with-requires-2 c κs = search needs
 
 add-len : tie.Need-add-len Inv-loop μ-loop
-add-len c = search (pulling, needs)
+add-len c = search needs
 
 start-price-requires-2 : tie.Need-start-price-requires-2 Inv-loop μ-loop
 start-price-requires-2 c κs =
@@ -60,7 +60,7 @@ start-price-requires-2 c κs =
     start-ready _ _ _ _ _ _ _ _ (inv .ready) (search (pulling, needs)) (search needs)
 
 loop-less : tie.Need-loop-less Inv-loop μ-loop
-loop-less c = search (pulling, needs)
+loop-less c = search needs
 
 loop-again : tie.Need-loop-again Inv-loop μ-loop
 loop-again c =
@@ -68,7 +68,7 @@ loop-again c =
     pulled-win _ _ _ _ _ _ _ _ inv (search needs) (search needs) (search needs) (c .before .start-price2 .ensures .0) (search needs) (search needs)
 
 loop-less-2 : tie.Need-loop-less-2 Inv-loop μ-loop
-loop-less-2 c = search (pulling, needs)
+loop-less-2 c = search needs
 
 loop-again-2 : tie.Need-loop-again-2 Inv-loop μ-loop
 loop-again-2 c =

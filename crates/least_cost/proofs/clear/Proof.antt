@@ -15,31 +15,31 @@ loop-holds : tie.Need-loop-holds Inv-loop μ-loop
 loop-holds c = search (clearing, needs)
 
 mul-costs : tie.Need-mul-costs Inv-loop μ-loop
-mul-costs c = search (clearing, needs)
+mul-costs c = search needs
 
 slice-write-costs : tie.Need-slice-write-costs Inv-loop μ-loop
-slice-write-costs c = search (clearing, needs)
+slice-write-costs c = search needs
 
 mul-starts : tie.Need-mul-starts Inv-loop μ-loop
-mul-starts c = search (clearing, needs)
+mul-starts c = search needs
 
 slice-write-starts : tie.Need-slice-write-starts Inv-loop μ-loop
-slice-write-starts c = search (clearing, needs)
+slice-write-starts c = search needs
 
 add-k : tie.Need-add-k Inv-loop μ-loop
-add-k c = search (clearing, needs)
+add-k c = search needs
 
 loop-less : tie.Need-loop-less Inv-loop μ-loop
-loop-less c = search (clearing, needs)
+loop-less c = search needs
 
 loop-again : tie.Need-loop-again Inv-loop μ-loop
 loop-again c = search (clearing, needs)
 
 same-length : tie.Need-same-length Inv-loop μ-loop
-same-length c = search (clearing, needs)
+same-length c = search needs
 
 same-length-2 : tie.Need-same-length-2 Inv-loop μ-loop
-same-length-2 c = search (clearing, needs)
+same-length-2 c = search needs
 
 returns : tie.Need-returns Inv-loop μ-loop
 returns c =

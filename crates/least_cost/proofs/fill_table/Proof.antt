@@ -16,13 +16,13 @@ abbrev μ-loop : tie.MeasureT-loop
 μ-loop words whites penalties widths p targets₀ chosen₀ costs₀ starts₀ n widest j₀ targets chosen costs starts j = length words - j
 
 widest-of-requires : tie.Need-widest-of-requires Inv-loop μ-loop
-widest-of-requires c κs = search (filling, needs)
+widest-of-requires c κs = search needs
 
 slice-write-costs : tie.Need-slice-write-costs Inv-loop μ-loop
-slice-write-costs c = search (filling, needs)
+slice-write-costs c = search needs
 
 slice-write-starts : tie.Need-slice-write-starts Inv-loop μ-loop
-slice-write-starts c = search (filling, needs)
+slice-write-starts c = search needs
 
 loop-holds : tie.Need-loop-holds Inv-loop μ-loop
 loop-holds c =
@@ -39,7 +39,7 @@ loop-holds c =
     (c .widest-of .ensures)
 
 add-j : tie.Need-add-j Inv-loop μ-loop
-add-j c = search (filling, needs)
+add-j c = search needs
 
 best-start-requires : tie.Need-best-start-requires Inv-loop μ-loop
 best-start-requires c κs = search (filling, needs)
@@ -48,16 +48,16 @@ cast-start : tie.Need-cast-start Inv-loop μ-loop
 cast-start c = search needs
 
 mul-costs : tie.Need-mul-costs Inv-loop μ-loop
-mul-costs c = search (filling, needs)
+mul-costs c = search needs
 
 slice-write-costs-2 : tie.Need-slice-write-costs-2 Inv-loop μ-loop
-slice-write-costs-2 c = search (filling, needs)
+slice-write-costs-2 c = search needs
 
 mul-starts : tie.Need-mul-starts Inv-loop μ-loop
-mul-starts c = search (filling, needs)
+mul-starts c = search needs
 
 slice-write-starts-2 : tie.Need-slice-write-starts-2 Inv-loop μ-loop
-slice-write-starts-2 c = search (filling, needs)
+slice-write-starts-2 c = search needs
 
 mul-chosen : tie.Need-mul-chosen Inv-loop μ-loop
 mul-chosen c = search needs
@@ -72,16 +72,16 @@ line-number-requires c κs =
     (omega (arith, inv .done .fixed .even .few), chosen-falls _ _ _ _ _ _ _ _ inv (search needs) (at-best .best-start .ensures))
 
 target-of-requires : tie.Need-target-of-requires Inv-loop μ-loop
-target-of-requires c κs = search (filling, needs)
+target-of-requires c κs = search needs
 
 mul-targets : tie.Need-mul-targets Inv-loop μ-loop
-mul-targets c = search (filling, needs)
+mul-targets c = search needs
 
 element-write-targets : tie.Need-element-write-targets Inv-loop μ-loop
-element-write-targets c = search (filling, needs)
+element-write-targets c = search needs
 
 loop-less : tie.Need-loop-less Inv-loop μ-loop
-loop-less c = search (filling, needs)
+loop-less c = search needs
 
 loop-again : tie.Need-loop-again Inv-loop μ-loop
 loop-again c =
@@ -92,7 +92,7 @@ loop-again c =
     filling-many _ _ _ _ _ _ _ _ inv (search needs) best (filling-done _ _ _ _ _ _ _ _ inv (search needs) best) (search needs) (at-line .line-number .ensures) (c .target-of .ensures)
 
 loop-less-2 : tie.Need-loop-less-2 Inv-loop μ-loop
-loop-less-2 c = search (filling, needs)
+loop-less-2 c = search needs
 
 loop-again-2 : tie.Need-loop-again-2 Inv-loop μ-loop
 loop-again-2 c =

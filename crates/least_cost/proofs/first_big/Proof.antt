@@ -17,20 +17,20 @@ loop-holds : tie.Need-loop-holds Inv-loop μ-loop
 loop-holds c = search (looking, needs)
 
 mul-if1 : tie.Need-mul-if1 Inv-loop μ-loop
-mul-if1 c = search (looking, needs)
+mul-if1 c = search needs
 
 array-read-if1 : tie.Need-array-read-if1 Inv-loop μ-loop
-array-read-if1 c = search (looking, needs)
+array-read-if1 c = search needs
 
 returns : tie.Need-returns Inv-loop μ-loop
 unfolding firstBig
 returns c = search (looking, needs)
 
 add-i : tie.Need-add-i Inv-loop μ-loop
-add-i c = search (looking, needs)
+add-i c = search needs
 
 loop-less : tie.Need-loop-less Inv-loop μ-loop
-loop-less c = search (looking, needs)
+loop-less c = search needs
 
 loop-again : tie.Need-loop-again Inv-loop μ-loop
 loop-again c = search (looking, needs)

@@ -1,0 +1,80 @@
+-- THE CHECK, demand 3: it accepts exactly what is asked of it, over all groupings of each input line's words; whatever the fill writes at a width is accepted; and each refusal comes exactly when document 01
+-- says, at that place, in its order 1 (before, then after), 2, 3, 9, 10, 11, 12.
+use mathlib.Core.Path.{_≡_, refl, sym, ap, _∙_}
+use mathlib.Core.Logic.{_↔_}
+use mathlib.Core.Bool.{Bool, true, false}
+use mathlib.Core.List.{List}
+use Prim.Native.Nat.{ℕ, _≤_, _<_}
+use native.Mathlib.Omega.{arith}
+use lib.Dec.{eqb, ltb}
+use lib.ListN.{length, getD}
+use borrow.Author.Tests.{lt-ltb, le-ltb, eq-eqb, ne-eqb}
+use Rattle.units.specs.Limits.{textMost, widthMost}
+use Rattle.units.specs.Answers.{success, refusal}
+use Rattle.logic.specs.Choice.{pick}
+use Rattle.chars.specs.Utf8.{firstFault, Whole}
+use Rattle.lines.specs.Breaks.{filled}
+use Rattle.judge.specs.declared.Judged.{Judged}
+use Rattle.judge.specs.declared.Judged.the-variants.{Accepted, TooLong, NotUtf8, TooWide, Lengths, BadChange, WideLine, ManyLines}
+use Rattle.judge.specs.Judge.{changesOf, judgeOf, answerOf}
+use Rattle.judge.specs.Demand.{Limits, AcceptedText}
+use Rattle.judge.proofs.Accepting.{accepts}
+use Rattle.judge.proofs.Filled.{filled-accepted}
+
+-- The number 0 comes for what is accepted alone.
+zero-accepted : (j : Judged) → answerOf j ≡ success 0 → j ≡ Accepted
+unfolding answerOf
+zero-accepted Accepted e = refl
+zero-accepted (TooLong l) e = let z : _≡_ {A = ℕ} 1 0 = ap (λ x. x .number) e in absurd (omega arith)
+zero-accepted (NotUtf8 o) e = let z : _≡_ {A = ℕ} 2 0 = ap (λ x. x .number) e in absurd (omega arith)
+zero-accepted TooWide e = let z : _≡_ {A = ℕ} 3 0 = ap (λ x. x .number) e in absurd (omega arith)
+zero-accepted Lengths e = let z : _≡_ {A = ℕ} 9 0 = ap (λ x. x .number) e in absurd (omega arith)
+zero-accepted (BadChange o) e = let z : _≡_ {A = ℕ} 10 0 = ap (λ x. x .number) e in absurd (omega arith)
+zero-accepted (WideLine o) e = let z : _≡_ {A = ℕ} 11 0 = ap (λ x. x .number) e in absurd (omega arith)
+zero-accepted (ManyLines o) e = let z : _≡_ {A = ℕ} 12 0 = ap (λ x. x .number) e in absurd (omega arith)
+
+-- The check accepts exactly if the text before and the width are within the limits and: lengths agree; each changed byte was the last space before a further word of its input line and is now a newline; each
+-- line so formed holds one word or fits; and no other grouping of an input line's words has fewer lines.
+pub check-accepts : (width : ℕ) (before after : List ℕ) → (answerOf (judgeOf width before after) ≡ success 0) ↔ (Limits width before × AcceptedText width before after)
+unfolding answerOf
+check-accepts width before after =
+    let a = accepts width before after in
+    (λ e. a .0 (zero-accepted (judgeOf width before after) e), λ h. ap answerOf (a .1 h))
+
+-- "Whatever the in-place fill writes at that width is accepted against the text it was given."
+pub check-filled : (width : ℕ) (text : List ℕ) → Limits width text → answerOf (judgeOf width text (filled width text)) ≡ success 0
+check-filled width text limits = check-accepts width text (filled width text) .1 (limits, filled-accepted width text)
+
+module _ (width : ℕ) (before after : List ℕ) where
+  -- "a text exceeds 60,000 bytes | its length": the text before, then the text after.
+  pub check-too-long : textMost < length before → answerOf (judgeOf width before after) ≡ refusal 1 (length before)
+  unfolding judgeOf answerOf
+  check-too-long h = rw (lt-ltb textMost (length before) h)
+
+  module _ (h : length before ≤ textMost) where
+    pub check-after-too-long : textMost < length after → answerOf (judgeOf width before after) ≡ refusal 1 (length after)
+    unfolding judgeOf answerOf
+    check-after-too-long g = rw (le-ltb textMost (length before) h, lt-ltb textMost (length after) g)
+
+    module _ (g : length after ≤ textMost) where
+      -- "the text is not UTF-8", the text before.
+      pub check-not-utf8 : firstFault before < length before → answerOf (judgeOf width before after) ≡ refusal 2 (firstFault before)
+      unfolding judgeOf answerOf
+      check-not-utf8 f = rw (le-ltb textMost (length before) h, le-ltb textMost (length after) g, lt-ltb (firstFault before) (length before) f)
+
+      module _ (f : Whole before) where
+        -- "a line width exceeds 255 | .. 0 for a single width"
+        pub check-too-wide : widthMost < width → answerOf (judgeOf width before after) ≡ refusal 3 0
+        unfolding judgeOf answerOf
+        check-too-wide w = rw (le-ltb textMost (length before) h, le-ltb textMost (length after) g, le-ltb (firstFault before) (length before) (omega (arith, f)), lt-ltb widthMost width w)
+
+        module _ (w : width ≤ widthMost) where
+          -- "check: the two texts differ in length"
+          pub check-lengths : (length after ≡ length before → ⊥) → answerOf (judgeOf width before after) ≡ refusal 9 0
+          unfolding judgeOf answerOf
+          check-lengths d = rw (le-ltb textMost (length before) h, le-ltb textMost (length after) g, le-ltb (firstFault before) (length before) (omega (arith, f)), le-ltb widthMost width w, ne-eqb (length after) (length before) d)
+
+          -- Where the lengths agree, it is the changes and then the lines that decide.
+          pub check-changes : length after ≡ length before → judgeOf width before after ≡ changesOf width before after
+          unfolding judgeOf
+          check-changes e = rw (le-ltb textMost (length before) h, le-ltb textMost (length after) g, le-ltb (firstFault before) (length before) (omega (arith, f)), le-ltb widthMost width w, eq-eqb (length after) (length before) e)

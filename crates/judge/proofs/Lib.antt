@@ -1,0 +1,9 @@
+pub mod Changing
+pub mod Placing
+pub mod Judging
+pub mod Reading
+pub mod Entering
+pub mod Forming
+pub mod Allowing
+pub mod Accepting
+pub mod Filled

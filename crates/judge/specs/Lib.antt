@@ -1,0 +1,3 @@
+pub mod Change
+pub mod Judge
+pub mod Demand
