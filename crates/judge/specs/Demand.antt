@@ -1,6 +1,6 @@
 -- Demand 3, as a person asks it: which text after is accepted against a text before at a width. Nothing here runs first fit.
 use mathlib.Core.Path.{_≡_}
-use Prim.Native.Nat.{ℕ, suc, _+_, _≤_, _<_}
+use Prim.Native.Nat.{ℕ, _≤_, _<_}
 use mathlib.Core.List.{List, [], _∷_, map}
 use lib.ListN.{length, getD}
 use Rattle.units.specs.Limits.{textMost, widthMost}
@@ -10,9 +10,9 @@ use Rattle.fragments.specs.Fragments.{Fragment}
 use Rattle.first_fit.specs.Groupings.{AllGood, Grouping, lines}
 use Rattle.words.specs.declared.Word.{Word}
 use Rattle.words.specs.Words.{words}
-use Rattle.words.specs.Lists.{startOf}
 use Rattle.lines.specs.Lines.{InputLine, inputLines, bodyOf}
 use Rattle.lines.specs.Breaks.{fragmentOf}
+use Rattle.lines.specs.Allowed.{AllowedBreak}
 use Rattle.judge.specs.Judge.{marks}
 
 -- The bounds of document 01, which the check tests first. Where the lengths agree, the text after is within them too.
@@ -21,19 +21,9 @@ pub record Limits (width : ℕ) (before : List ℕ) : Type 0 where
   pub whole : Whole before
   pub narrow : width ≤ widthMost
 
--- "the last space before a further word of its input line": a word that is not the line's first starts right after the place.
-pub record LastSpace (before : List ℕ) (p : ℕ) : Type 0 where
-  pub line : InputLine
-  pub inText : line ∈ inputLines before
-  pub word : Word
-  pub inLine : word ∈ words (bodyOf before line)
-  pub further : 0 < startOf word
-  pub next : line .start + startOf word ≡ suc p
-  pub blank : getD before p 0 ≡ 0x20
-
 -- "each changed byte was the last space before a further word of its input line and is now a newline"
-pub record Allowed (before after : List ℕ) (p : ℕ) : Type 0 where
-  pub was : LastSpace before p
+pub record Broken (before after : List ℕ) (p : ℕ) : Type 0 where
+  pub was : AllowedBreak before p
   pub is : getD after p 0 ≡ 0x0A
 
 -- The words of an input line, and the lines that the text after forms of them.
@@ -56,5 +46,5 @@ pub record AcceptedLine (width : ℕ) (before after : List ℕ) (l : InputLine) 
 pub record AcceptedText (width : ℕ) (before after : List ℕ) : Type 0 where
   -- "lengths agree"
   pub lengths : length after ≡ length before
-  pub changes : (p : ℕ) → p < length before → (getD after p 0 ≡ getD before p 0 → ⊥) → Allowed before after p
+  pub changes : (p : ℕ) → p < length before → (getD after p 0 ≡ getD before p 0 → ⊥) → Broken before after p
   pub each : (l : InputLine) → l ∈ inputLines before → AcceptedLine width before after l
