@@ -135,6 +135,11 @@ module _ (width : ℕ) (after : List ℕ) (start : ℕ) where
   fits-good [] h = tt
   fits-good (w ∷ ws) h = fits-grouping {f = fragmentOf w} (wide-fits width start 0 (columnsOf w) ws (marks after start ws) (marks-length after start ws ∙ length-map ws fragmentOf) h) .good
 
+  pub good-none : (ws : List Word) → AllGood width (formedOf after start ws) → wideOf width after start ws ≡ Nowhere
+  unfolding formedOf wideOf
+  good-none [] h = refl
+  good-none (w ∷ ws) h = fits-wide width start 0 (columnsOf w) ws (marks after start ws) (formed-fits width (fragmentOf w) (map fragmentOf ws) (marks after start ws) (marks-length after start ws) h)
+
   pub many-fewer : (ws : List Word) → wideOf width after start ws ≡ Nowhere → manyOf width after start ws ≡ true
       → (others : List (List Fragment)) × Grouping width (map fragmentOf ws) others × (length others < length (formedOf after start ws))
   unfolding formedOf wideOf givenOf neededOf lineCount

@@ -2,12 +2,12 @@
 use mathlib.Core.Path.{_≡_, refl, sym, ap, _∙_, subst}
 use mathlib.Core.Logic.{_⊎_, inl, inr, ⊎-elim}
 use mathlib.Core.Bool.{Bool, true, false}
-use mathlib.Core.List.{List, [], _∷_, _++_, map, List·Memᴰ·head, List·Memᴰ·cases-cons, List·Memᴰ·not-nil, Memᴰ·append-left, Memᴰ·append-right}
+use mathlib.Core.List.{List, [], _∷_, _++_, map, List·Memᴰ·head, List·Memᴰ·tail, List·Memᴰ·cases-cons, List·Memᴰ·not-nil, Memᴰ·append-left, Memᴰ·append-right}
 use Prim.Native.Nat.{ℕ, zero, suc, _+_, _≤_, _<_}
 use native.Mathlib.Omega.{arith}
-use lib.Dec.{ltb}
+use lib.Dec.{eqb, ltb}
 use lib.ListN.{length, getD, take}
-use borrow.Author.Tests.{ltb-true, ltb-false}
+use borrow.Author.Tests.{eqb-true, eqb-false, ltb-true, ltb-false, lt-ltb}
 use Rattle.units.specs.declared.Offset.{Offset}
 use Rattle.logic.specs.Choice.{pick}
 use Rattle.logic.specs.Member.{_∈_}
@@ -23,12 +23,12 @@ use Rattle.judge.specs.declared.Found.{Found}
 use Rattle.judge.specs.declared.Found.the-variants.{At, Nowhere}
 use Rattle.judge.specs.declared.Judged.{Judged}
 use Rattle.judge.specs.declared.Judged.the-variants.{Accepted, BadChange, WideLine, ManyLines}
-use Rattle.judge.specs.Change.{firstBad}
+use Rattle.judge.specs.Change.{changeAt, allowed, firstBadFrom, firstBad}
 use Rattle.judge.specs.Judge.{marks, wideFrom, wideOf, manyOf, wideIn, manyIn, orElse, firstIn, manyBy, wideBy, linesOf, changesOf}
 use Rattle.judge.specs.Demand.{Broken, formedOf, formed, wordsOf, AcceptedLine, startsOf, lineStarts, Wide, BadAt, WideAt, WideLineAt, ManyLinesAt}
-use Rattle.judge.proofs.Forming.{at-nowhere, fits-good, many-fewer}
+use Rattle.judge.proofs.Forming.{at-nowhere, fits-good, good-none, many-fewer, fine-formed}
 use Rattle.judge.proofs.Allowing.{changed-broke, broke-allowed, kept-allowed, broke-is, is-broke, bad-before, bad-there}
-use Rattle.judge.proofs.Accepting.{first-none, fine-line}
+use Rattle.judge.proofs.Accepting.{first-none, none-first, line-fine, fine-line}
 
 -- ---- the first input line in which a rule finds something
 
@@ -224,3 +224,106 @@ module _ (width : ℕ) (b a : List ℕ) where
       many-there : (t : Bool) {p : ℕ} → pick t (At (record { 0 = p })) Nowhere ≡ At o → (t ≡ true) × (o .0 ≡ p)
       many-there true {p} e = let z : record { 0 = p } ≡ o = cc in (refl, ap (λ v. v .0) (sym z))
       many-there false e = absurd (at-nowhere (sym e))
+
+-- ---- and the other way: where it is so, that is the answer
+
+-- A good line is not too wide.
+not-wide : (w : ℕ) (l : List Fragment) → Good w l → Wide w l → ⊥
+unfolding Good
+not-wide w [] g h = g
+not-wide w (f ∷ []) g h = omega (arith, h .0)
+not-wide w (f ∷ x ∷ l) g h = omega (arith, h .1, g)
+
+good-taken : (w : ℕ) (ls : List (List Fragment)) (m n : ℕ) → AllGood w (take m ls) → n < m → Wide w (getD ls n []) → ⊥
+unfolding AllGood
+good-taken w [] m n g l h = omega (arith, h .0)
+good-taken w (x ∷ ls) zero n g l h = omega arith
+good-taken w (x ∷ ls) (suc m) zero g l h = not-wide w x (g .0) h
+good-taken w (x ∷ ls) (suc m) (suc n) g l h = good-taken w ls m n (g .1) (omega arith) h
+
+good-all : (w : ℕ) (ls : List (List Fragment)) (n : ℕ) → AllGood w ls → Wide w (getD ls n []) → ⊥
+unfolding AllGood
+good-all w [] n g h = omega (arith, h .0)
+good-all w (x ∷ ls) zero g h = not-wide w x (g .0) h
+good-all w (x ∷ ls) (suc n) g h = good-all w ls n (g .1) h
+
+-- Neither is before the other.
+same-place : (m n : ℕ) → (m < n → ⊥) → (n < m → ⊥) → m ≡ n
+same-place m n c d = both (ltb m n) (λ t. absurd (c (ltb-true m n t))) (λ t. both (ltb n m) (λ u. absurd (d (ltb-true n m u))) (λ u. omega (arith, ltb-false m n t, ltb-false n m u)))
+
+-- So a line that is the first too wide one is what is found.
+wide-is : (width : ℕ) (after : List ℕ) (start : ℕ) (ws : List Word) {p : ℕ} → WideAt width after start ws p → wideOf width after start ws ≡ At (record { 0 = p })
+wide-is width after start ws {p} h = go (wideOf width after start ws) refl
+  where
+    go : (f : Found) → wideOf width after start ws ≡ f → f ≡ At (record { 0 = p })
+    go Nowhere e = absurd (good-all width (formedOf after start ws) (h .number) (fits-good width after start ws e) (h .wide))
+    go (At o) e =
+        let r = wide-in-line width after start ws e in
+        let n : r .number ≡ h .number = same-place (r .number) (h .number) (λ l. good-taken width (formedOf after start ws) (h .number) (r .number) (h .good) l (r .wide)) (λ l. good-taken width (formedOf after start ws) (r .number) (h .number) (r .good) l (h .wide)) in
+        let q : o .0 ≡ p = r .place ∙ rw n (sym (h .place)) in
+        rw (← q)
+
+first-is : (rule : InputLine → Found) (earlier : List InputLine) (line : InputLine) (later : List InputLine) {o : Offset} → ((l : InputLine) → l ∈ earlier → rule l ≡ Nowhere) → rule line ≡ At o
+    → firstIn rule (earlier ++ line ∷ later) ≡ At o
+unfolding firstIn
+first-is rule [] line later h e = rw e
+first-is rule (x ∷ xs) line later h e = rw (h x (List·Memᴰ·head refl)) (first-is rule xs line later (λ l m. h l (List·Memᴰ·tail m)) e)
+
+bad-is : (b a : List ℕ) (n i p : ℕ) → i ≤ p → p < i + n → ((q : ℕ) → q < p → allowed (changeAt b a q) ≡ true) → allowed (changeAt b a p) ≡ false → firstBadFrom b a n i ≡ p
+unfolding firstBadFrom
+bad-is b a zero i p h l f e = absurd (omega arith)
+bad-is b a (suc n) i p h l f e =
+    both (ltb i p)
+    (λ t. rw (f i (ltb-true i p t)) (bad-is b a n (suc i) p (omega (arith, ltb-true i p t)) (omega arith) f e))
+    (λ t. let z : i ≡ p = omega (arith, ltb-false i p t) in rw (z, e))
+
+module _ (width : ℕ) (b a : List ℕ) (n : length a ≡ length b) where
+  as-allowed : (p : ℕ) → p < length b → ((getD a p 0 ≡ getD b p 0 → ⊥) → Broken b a p) → allowed (changeAt b a p) ≡ true
+  as-allowed p l f =
+      both (eqb (getD a p 0) (getD b p 0))
+      (λ u. rw (kept-allowed b a p (eqb-true (getD a p 0) (getD b p 0) u)))
+      (λ u. rw (broke-allowed b a p (is-broke b a p n l (f (eqb-false (getD a p 0) (getD b p 0) u)))))
+
+  pub bad-said : {p : ℕ} → BadAt b a p → changesOf width b a ≡ BadChange (record { 0 = p })
+  unfolding changesOf firstBad
+  bad-said {p} h =
+      let l = h .inside in
+      let e : allowed (changeAt b a p) ≡ false = not-allowed (allowed (changeAt b a p)) refl in
+      let f = bad-is b a (length b) 0 p (omega arith) (omega arith) (λ q k. as-allowed q (omega arith) (h .earlier q k)) e in
+      rw (f, lt-ltb p (length b) l)
+    where
+      not-allowed : (t : Bool) → allowed (changeAt b a p) ≡ t → t ≡ false
+      not-allowed true e = absurd (h .bad (broke-is b a p (h .inside) (changed-broke b a p e (h .changed))))
+      not-allowed false e = refl
+
+  -- Where all changes are allowed breaks, the lines decide.
+  good-said : ((q : ℕ) → q < length b → (getD a q 0 ≡ getD b q 0 → ⊥) → Broken b a q) → changesOf width b a ≡ linesOf width b a (inputLines b)
+  unfolding changesOf firstBad
+  good-said f =
+      both (ltb (firstBad b a) (length b))
+      (λ t.
+      let l = ltb-true (firstBad b a) (length b) t in
+      absurd (clash (as-allowed (firstBad b a) l (f (firstBad b a) l)) (bad-there b a (length b) 0 (omega arith))))
+      (λ t. rw t)
+
+  pub wide-said : {p : ℕ} → WideLineAt width b a p → changesOf width b a ≡ WideLine (record { 0 = p })
+  unfolding linesOf
+  wide-said {p} h =
+      let e = first-is (wideIn width b a) (h .earlier) (h .line) (h .later) (λ l m. good-none width a (l .start) (words (bodyOf b l)) (h .good l m)) (wide-is width a (h .line .start) (words (bodyOf b (h .line))) (h .wide)) in
+      let f : firstIn (wideIn width b a) (inputLines b) ≡ At (record { 0 = p }) = ap (firstIn (wideIn width b a)) (h .split) ∙ e in
+      good-said (h .changes) ∙ rw f
+
+  pub many-said : {p : ℕ} → ManyLinesAt width b a p → changesOf width b a ≡ ManyLines (record { 0 = p })
+  unfolding linesOf
+  many-said {p} h =
+      let none : (l : InputLine) → l ∈ inputLines b → wideIn width b a l ≡ Nowhere = λ l m. good-none width a (l .start) (words (bodyOf b l)) (h .good l m) in
+      let m : h .line ∈ inputLines b = subst (λ (x : List InputLine). h .line ∈ x) (sym (h .split)) (Memᴰ·append-right (h .earlier) (List·Memᴰ·head refl)) in
+      let t = too-many (manyOf width a (h .line .start) (words (bodyOf b (h .line)))) refl (none (h .line) m) in
+      let e : manyIn width b a (h .line) ≡ At (record { 0 = p }) = rw (t, h .place) in
+      let f = first-is (manyIn width b a) (h .earlier) (h .line) (h .later) (λ l m. line-fine width b a l (h .enough l m) .1) e in
+      let g : firstIn (manyIn width b a) (inputLines b) ≡ At (record { 0 = p }) = ap (firstIn (manyIn width b a)) (h .split) ∙ f in
+      good-said (h .changes) ∙ rw (none-first (wideIn width b a) (inputLines b) none, g)
+    where
+      too-many : (t : Bool) → manyOf width a (h .line .start) (words (bodyOf b (h .line))) ≡ t → wideIn width b a (h .line) ≡ Nowhere → t ≡ true
+      too-many true e k = refl
+      too-many false e k = absurd (omega (arith, h .fewer, fine-formed width a (h .line .start) (words (bodyOf b (h .line))) (k, e) .1 (h .others) (h .grouping)))
