@@ -7,4 +7,5 @@ pub mod Pieces
 pub mod Listing
 pub mod FirstFit
 pub mod LeastCost
+pub mod Fill
 pub mod Check

@@ -1,12 +1,15 @@
 -- The starred examples of document 01, as one table: what the definitions give, a row each, beside what the document says.
 use Prim.Native.Nat.{ℕ}
-use mathlib.Core.List.{List, [], _∷_, map}
+use mathlib.Core.List.{List, [], _∷_, _++_, map}
 use Rattle.units.specs.declared.Answer.{Answer}
 use Rattle.measure.specs.Measure.{measureOf, answerOf}
 use Rattle.words.specs.declared.Word.{Word}
 use Rattle.words.specs.Words.{words}
 use Rattle.words.specs.Lists.{startOf, endOf, whiteOf, widthOfWord}
 use Rattle.pieces.specs.Pieces.{breakApart}
+use Rattle.first_fit.specs.Groupings.{lineWidth}
+use Rattle.lines.specs.Breaks.{fragmentOf, textBreaks}
+use Rattle.fill.specs.Fill as fill
 use Rattle.judge.specs.Judge as check
 
 -- An answer as number, place and count.
@@ -28,11 +31,31 @@ flatWords (p ∷ ps) = startOf p ∷ endOf p ∷ whiteOf p ∷ widthOfWord p ∷
 abbrev pub broken : List ℕ → ℕ → List ℕ
 broken text w = flatWords (breakApart text w)
 
+-- The width of a text as a line of a fill.
+abbrev pub fillLine : List ℕ → List ℕ
+fillLine text = lineWidth (map fragmentOf (words text)) ∷ []
+
+-- What the fill answers, and then the bytes that it changes.
+abbrev pub filled : ℕ → List ℕ → List ℕ
+filled width text = numbers (fill.answerOf (fill.fillOf width text)) ++ textBreaks width text
+
 -- The check of a text after against the text before.
 abbrev pub checked : ℕ → List ℕ → List ℕ → List ℕ
 checked width before after = numbers (check.answerOf (check.judgeOf width before after))
 
 -- ---- the texts, as bytes
+
+-- `foo bar baz`
+abbrev pub fooBarBaz : List ℕ
+fooBarBaz = 0x66 ∷ 0x6F ∷ 0x6F ∷ 0x20 ∷ 0x62 ∷ 0x61 ∷ 0x72 ∷ 0x20 ∷ 0x62 ∷ 0x61 ∷ 0x7A ∷ []
+
+-- `foo  bar`
+abbrev pub fooBar : List ℕ
+fooBar = 0x66 ∷ 0x6F ∷ 0x6F ∷ 0x20 ∷ 0x20 ∷ 0x62 ∷ 0x61 ∷ 0x72 ∷ []
+
+-- `  foo`
+abbrev pub spacesFoo : List ℕ
+spacesFoo = 0x20 ∷ 0x20 ∷ 0x66 ∷ 0x6F ∷ 0x6F ∷ []
 
 -- `a b c`, and with one newline and with two
 abbrev pub abc : List ℕ
@@ -79,12 +102,19 @@ given =
     ∷ measured openString
     ∷ wordWidths openString
     ∷ broken hello 3
+    ∷ fillLine openString
+    ∷ filled 7 fooBarBaz
+    ∷ filled 3 fooBar
+    ∷ filled 3 spacesFoo
+    ∷ filled 0 []
     ∷ checked 3 abc abcOne
     ∷ checked 3 abc abcTwo
     ∷ checked 3 abc abc
     ∷ []
 
--- measuring: 0 is success, with place 0; the count is the columns. `ab ` ESC `]cd ef` measures 3, but its words 2, 0, 2. `Hello!  ` broken at 3: `Hel`, `lo!` with two spaces. Check of `a b c` at 3: `a`⏎`b c` accepted, `a`⏎`b`⏎`c` 12, unchanged 11
+-- measuring: 0 is success, with place 0; the count is the columns. `ab ` ESC `]cd ef` measures 3, but its words 2, 0, 2. `Hello!  ` broken at 3: `Hel`, `lo!` with two spaces.
+-- `ab ` ESC `]cd ef` as a fill line is 6 wide. Filling: 0, place 0, the count, and the bytes changed: 7 of `foo bar baz` at 7, 4 of `foo  bar` at 3, 1 of `  foo` at 3, none of the empty text
+-- Check of `a b c` at 3: `a`⏎`b c` accepted, `a`⏎`b`⏎`c` 12, unchanged 11
 abbrev pub wanted : List (List ℕ)
 wanted =
     (0 ∷ 0 ∷ 10 ∷ [])
@@ -94,6 +124,11 @@ wanted =
     ∷ (0 ∷ 0 ∷ 3 ∷ [])
     ∷ (2 ∷ 0 ∷ 2 ∷ [])
     ∷ (0 ∷ 3 ∷ 0 ∷ 3 ∷ 3 ∷ 6 ∷ 2 ∷ 3 ∷ [])
+    ∷ (6 ∷ [])
+    ∷ (0 ∷ 0 ∷ 1 ∷ 7 ∷ [])
+    ∷ (0 ∷ 0 ∷ 1 ∷ 4 ∷ [])
+    ∷ (0 ∷ 0 ∷ 1 ∷ 1 ∷ [])
+    ∷ (0 ∷ 0 ∷ 0 ∷ [])
     ∷ (0 ∷ 0 ∷ 0 ∷ [])
     ∷ (12 ∷ 0 ∷ 0 ∷ [])
     ∷ (11 ∷ 0 ∷ 0 ∷ [])
