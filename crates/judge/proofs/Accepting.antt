@@ -102,10 +102,10 @@ module _ (width : ℕ) (b a : List ℕ) where
 
   -- ---- and that is demand 3
 
-  line-fine : (l : InputLine) → AcceptedLine width b a l → (wideIn width b a l ≡ Nowhere) × (manyIn width b a l ≡ Nowhere)
+  pub line-fine : (l : InputLine) → AcceptedLine width b a l → (wideIn width b a l ≡ Nowhere) × (manyIn width b a l ≡ Nowhere)
   line-fine l h = let k = formed-fine width a (l .start) (words (bodyOf b l)) (h .fits, h .fewest) in (k .0, rw (k .1))
 
-  fine-line : (l : InputLine) → wideIn width b a l ≡ Nowhere → manyIn width b a l ≡ Nowhere → AcceptedLine width b a l
+  pub fine-line : (l : InputLine) → wideIn width b a l ≡ Nowhere → manyIn width b a l ≡ Nowhere → AcceptedLine width b a l
   fine-line l h g =
       let k = fine-formed width a (l .start) (words (bodyOf b l)) (h, many-none (manyOf width a (l .start) (words (bodyOf b l))) g at-nowhere) in
       record { fits = k .0; fewest = k .1 }
