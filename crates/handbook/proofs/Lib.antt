@@ -9,3 +9,5 @@ pub mod FirstFit
 pub mod LeastCost
 pub mod Fill
 pub mod Check
+pub mod Jobs
+pub mod JobExample

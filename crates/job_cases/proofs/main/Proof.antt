@@ -1,0 +1,47 @@
+-- `main`: the place of the argument rises to their number.
+use Prim.Native.Nat.{_-_, _^_, _<_}
+use borrow.Author.Needs.{needs}
+use Rattle.job_cases.proofs.main.Statement.{statement}
+use Rattle.job_cases.proofs.main.Tie as tie
+use Rattle.job_cases.proofs.main.Lts as lts
+
+abbrev Inv-loop : tie.InvT-loop
+Inv-loop count k₀ k = count < 2 ^ 64
+
+abbrev μ-loop : tie.MeasureT-loop
+μ-loop count k₀ k = count - k
+
+arg-count-requires : tie.Need-arg-count-requires Inv-loop μ-loop
+arg-count-requires c κs = search needs
+
+loop-holds : tie.Need-loop-holds Inv-loop μ-loop
+loop-holds c = search needs
+
+run-requires : tie.Need-run-requires Inv-loop μ-loop
+run-requires c κs = search needs
+
+add-k : tie.Need-add-k Inv-loop μ-loop
+add-k c = search needs
+
+loop-less : tie.Need-loop-less Inv-loop μ-loop
+loop-less c = search needs
+
+loop-again : tie.Need-loop-again Inv-loop μ-loop
+loop-again c = search needs
+
+returns : tie.Need-returns Inv-loop μ-loop
+returns c = search needs
+
+pub main-spec : {M : Type 1} → statement M
+main-spec =
+    tie.close
+    (tie.spec
+    Inv-loop
+    μ-loop
+    arg-count-requires
+    loop-holds
+    run-requires
+    add-k
+    loop-less
+    loop-again
+    returns)
