@@ -2,16 +2,13 @@
 -- says, at that place, in its order 1 (before, then after), 2, 3, 9, 10, 11, 12.
 use mathlib.Core.Path.{_≡_, refl, sym, ap, _∙_}
 use mathlib.Core.Logic.{_↔_}
-use mathlib.Core.Bool.{Bool, true, false}
 use mathlib.Core.List.{List}
 use Prim.Native.Nat.{ℕ, _≤_, _<_}
 use native.Mathlib.Omega.{arith}
-use lib.Dec.{eqb, ltb}
-use lib.ListN.{length, getD}
+use lib.ListN.{length}
 use borrow.Author.Tests.{lt-ltb, le-ltb, eq-eqb, ne-eqb}
 use Rattle.units.specs.Limits.{textMost, widthMost}
 use Rattle.units.specs.Answers.{success, refusal}
-use Rattle.logic.specs.Choice.{pick}
 use Rattle.chars.specs.Utf8.{firstFault, Whole}
 use Rattle.lines.specs.Breaks.{filled}
 use Rattle.judge.specs.declared.Judged.{Judged}

@@ -1,27 +1,23 @@
 -- A changed byte is one that may be changed exactly if it was the last space before a further word of its input line and is a newline now.
 use mathlib.Core.Path.{_≡_, refl, sym, ap, _∙_}
-use mathlib.Core.Logic.{_↔_}
-use mathlib.Core.Bool.{Bool, true, false}
-use mathlib.Core.List.{List, [], _∷_, map, Memᴰ·map, Memᴰ·of-map}
+use mathlib.Core.Bool.{true, false}
+use mathlib.Core.List.{List, Memᴰ·map, Memᴰ·of-map}
 use Prim.Native.Nat.{ℕ, zero, suc, _+_, _-_, _≤_, _<_}
 use native.Mathlib.Omega.{arith}
-use lib.Dec.{eqb, ltb}
-use lib.ListN.{length, getD, take, drop, length-take, length-drop, List·getD-eq-default}
+use lib.Dec.{ltb}
+use lib.ListN.{length, getD, drop, length-take, length-drop}
 use borrow.Author.Tests.{eqb-true, eqb-false, eq-eqb, ne-eqb, ltb-true, ltb-false, lt-ltb}
-use Rattle.logic.specs.Choice.{pick}
 use Rattle.logic.specs.Member.{_∈_}
 use Rattle.logic.proofs.Choice.{both, clash}
 use Rattle.words.specs.declared.Word.{Word}
 use Rattle.words.specs.Words.{space, words}
 use Rattle.words.specs.Lists.{startOf, endOf}
-use Rattle.words.specs.Bytes.{contentOf}
 use Rattle.words.proofs.Theory.{Between, starts-between, later-some}
-use Rattle.lines.specs.Lines.{newline, lineEnd, bodyEnd, inBody, InputLine, lineAt, inputLines, bodyOf}
-use Rattle.lines.proofs.Laws.{line-inside, body-inside, body-length}
+use Rattle.lines.specs.Lines.{newline, lineEnd, bodyEnd, inBody, lineAt, bodyOf}
+use Rattle.lines.proofs.Laws.{body-inside, body-length}
 use Rattle.lines.proofs.Bodies.{in-body-line, line-starts, within, body-byte, end-stops}
-use Rattle.judge.specs.declared.Change.{Change}
-use Rattle.judge.specs.declared.Change.the-variants.{Kept, Break, NotSpace, NotNewline, SpaceFollows, NoWord}
-use Rattle.judge.specs.Change.{changeAt, allowed, firstBadFrom, firstBad}
+use Rattle.judge.specs.declared.Change.the-variants.{Kept, Break}
+use Rattle.judge.specs.Change.{changeAt, allowed, firstBadFrom}
 use Rattle.judge.specs.Demand.{Broken}
 
 -- ---- a further word of a body

@@ -3,34 +3,31 @@ use mathlib.Core.Path.{_≡_, refl, sym, ap, _∙_, subst}
 use mathlib.Core.Logic.{_⊎_, inl, inr, ⊎-elim}
 use mathlib.Core.Bool.{Bool, true, false}
 use mathlib.Core.List.{List, [], _∷_, _++_, map, List·Memᴰ·head, List·Memᴰ·tail, List·Memᴰ·cases-cons, List·Memᴰ·not-nil, Memᴰ·map, Memᴰ·append-left, Memᴰ·append-right}
-use Prim.Native.Nat.{ℕ, zero, suc, _+_, _-_, _≤_, _<_}
+use Prim.Native.Nat.{ℕ, suc, _+_, _-_, _≤_, _<_}
 use native.Mathlib.Omega.{arith}
 use lib.Dec.{eqb, ltb}
-use lib.ListN.{length, getD, set, length-set}
-use lib.Seq.{getD-set-same, getD-set-other}
-use borrow.Author.Tests.{eqb-true, eqb-false, ltb-true, ltb-false, le-ltb, ne-eqb}
+use lib.ListN.{length}
+use borrow.Author.Tests.{eqb-true, eqb-false, ltb-true, ltb-false, le-ltb}
 use Rattle.logic.specs.Member.{_∈_}
 use Rattle.logic.proofs.Choice.{both}
 use Rattle.logic.proofs.Items.{items-each}
-use Rattle.fragments.specs.Fragments.{Fragment}
 use Rattle.first_fit.specs.FirstFit.{flags}
-use Rattle.first_fit.specs.Groupings.{fit, started, columnsAfter, tooWide}
+use Rattle.first_fit.specs.Groupings.{fit, started, columnsAfter}
 use Rattle.first_fit.proofs.Groupings.{fit-fits}
 use Rattle.words.specs.declared.Word.{Word}
-use Rattle.words.specs.Words.{space, afterWord, wordAt, words}
+use Rattle.words.specs.Words.{afterWord, wordAt, words}
 use Rattle.words.specs.Lists.{startOf}
 use Rattle.words.proofs.Laws.{after-later}
 use Rattle.words.proofs.Counting.{wordsFrom, words-next, words-none}
-use Rattle.lines.specs.Lines.{newline, lineEnd, bodyEnd, InputLine, lineAt, inputLines, bodyOf}
-use Rattle.lines.specs.Breaks.{fragmentOf, columnsOf, places, breaksFrom, breaksOf, breaks, breaksIn, breaksAll, textBreaks, broken, filled}
+use Rattle.lines.specs.Lines.{lineEnd, bodyEnd, InputLine, lineAt, inputLines, bodyOf}
+use Rattle.lines.specs.Breaks.{fragmentOf, columnsOf, places, breaksOf, breaks, breaksIn, breaksAll, textBreaks, filled}
 use Rattle.lines.proofs.Laws.{line-inside, body-inside, body-length}
 use Rattle.lines.proofs.Bodies.{line-starts, line-alone, body-byte}
 use Rattle.lines.proofs.Breaking.{break-inside, break-line, broken-length}
 use Rattle.lines.proofs.Rising.{broken-other, broken-there}
 use Rattle.lines.proofs.Allowed.{break-allowed}
-use Rattle.judge.specs.declared.Found.the-variants.{Nowhere}
-use Rattle.judge.specs.Judge.{markOf, marks, wideOf, givenOf, neededOf, manyOf}
-use Rattle.judge.specs.Demand.{Broken, AcceptedLine, AcceptedText}
+use Rattle.judge.specs.Judge.{markOf, marks, wideOf, givenOf, neededOf}
+use Rattle.judge.specs.Demand.{AcceptedLine, AcceptedText}
 use Rattle.judge.proofs.Forming.{Fine, fits-wide, fine-formed}
 use Rattle.judge.proofs.Allowing.{word-inside, word-between}
 

@@ -1,24 +1,20 @@
 -- An input line by the lines that the text after forms of it: none is too wide exactly if all are good, and it has not too many exactly if no grouping has fewer.
-use mathlib.Core.Path.{_≡_, refl, sym, ap, _∙_, subst}
-use mathlib.Core.Logic.{_↔_}
+use mathlib.Core.Path.{_≡_, refl, ap, _∙_}
 use mathlib.Core.Bool.{Bool, true, false}
-use mathlib.Core.List.{List, [], _∷_, _++_, map}
-use Prim.Native.Nat.{ℕ, suc, _+_, _≤_, _<_, max}
+use mathlib.Core.List.{List, [], _∷_, map}
+use Prim.Native.Nat.{ℕ, suc, _+_, _≤_, _<_}
 use native.Mathlib.Omega.{arith}
 use lib.Dec.{ltb}
 use lib.ListN.{length, length-map}
 use borrow.Author.Tests.{ltb-true, ltb-false, le-ltb}
-use Rattle.logic.specs.Choice.{pick}
 use Rattle.logic.proofs.Choice.{both}
 use Rattle.fragments.specs.Fragments.{Fragment}
-use Rattle.first_fit.specs.FirstFit.{flags}
 use Rattle.first_fit.specs.Groupings.{lineWidth, Good, AllGood, joined, Grouping, fit, started, lineCount, cut, lines, Fits}
 use Rattle.first_fit.specs.Groupings.Fits.{none, fresh, join}
-use Rattle.first_fit.proofs.Groupings.{fit-fits, fits-grouping, lines-count, count-least, count-met}
+use Rattle.first_fit.proofs.Groupings.{fits-grouping, lines-count, count-least, count-met}
 use Rattle.words.specs.declared.Word.{Word}
 use Rattle.words.specs.Lists.{startOf, widthOfWord}
 use Rattle.lines.specs.Breaks.{fragmentOf, columnsOf}
-use Rattle.judge.specs.declared.Found.{Found}
 use Rattle.judge.specs.declared.Found.the-variants.{At, Nowhere}
 use Rattle.judge.specs.Judge.{marks, wideFrom, wideOf, givenOf, neededOf, manyOf}
 use Rattle.judge.specs.Demand.{formedOf}

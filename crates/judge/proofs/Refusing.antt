@@ -22,10 +22,10 @@ use Rattle.lines.specs.Breaks.{fragmentOf, columnsOf}
 use Rattle.judge.specs.declared.Found.{Found}
 use Rattle.judge.specs.declared.Found.the-variants.{At, Nowhere}
 use Rattle.judge.specs.declared.Judged.{Judged}
-use Rattle.judge.specs.declared.Judged.the-variants.{Accepted, BadChange, WideLine, ManyLines}
+use Rattle.judge.specs.declared.Judged.the-variants.{BadChange, WideLine, ManyLines}
 use Rattle.judge.specs.Change.{changeAt, allowed, firstBadFrom, firstBad}
-use Rattle.judge.specs.Judge.{marks, wideFrom, wideOf, manyOf, wideIn, manyIn, orElse, firstIn, manyBy, wideBy, linesOf, changesOf}
-use Rattle.judge.specs.Demand.{Broken, formedOf, formed, wordsOf, AcceptedLine, startsOf, lineStarts, Wide, BadAt, WideAt, WideLineAt, ManyLinesAt}
+use Rattle.judge.specs.Judge.{marks, wideFrom, wideOf, manyOf, wideIn, manyIn, orElse, firstIn, wideBy, linesOf, changesOf}
+use Rattle.judge.specs.Demand.{Broken, formedOf, startsOf, lineStarts, Wide, BadAt, WideAt, WideLineAt, ManyLinesAt}
 use Rattle.judge.proofs.Forming.{at-nowhere, fits-good, good-none, many-fewer, fine-formed}
 use Rattle.judge.proofs.Allowing.{changed-broke, broke-allowed, kept-allowed, broke-is, is-broke, bad-before, bad-there}
 use Rattle.judge.proofs.Accepting.{first-none, none-first, line-fine, fine-line}
