@@ -28,7 +28,7 @@ pub fn fill(text: &mut [u8], width: u32) -> Answer {
 /// use kenupatun::fill_inplace;
 ///
 /// let mut text = "Où est l’œuvre ?".to_string().into_bytes();
-/// assert_eq!(fill_inplace(&mut text, 8), Ok(1));
+/// assert_eq!(fill_inplace(&mut text, 10), Ok(1));
 /// assert_eq!(text, "Où est\nl’œuvre ?".as_bytes());
 /// ```
 pub fn fill_inplace(text: &mut [u8], width: u32) -> Result<usize, Refusal> {

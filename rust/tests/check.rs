@@ -258,7 +258,7 @@ fn some_text(rng: &mut Rng) -> String {
 #[test]
 fn filled_texts() {
     let make = |rng: &mut Rng| (some_text(rng), [words::width(rng), words::width(rng)]);
-    run(0..cases() / 5, make, |(text, [width, other])| {
+    run(0..cases() / 20, make, |(text, [width, other])| {
         let after = filled(text.as_bytes(), *width);
         agrees(text.as_bytes(), &after, *other)?;
         match agrees(text.as_bytes(), &after, *width)? {
@@ -275,7 +275,7 @@ fn filled_texts_with_other_breaks() {
         let turned = [0, 1, 2].map(|_| rng.below(1_000) as u32);
         (some_text(rng), (turned, words::width(rng)))
     };
-    run(0..cases() / 2, make, |(text, (turned, width))| {
+    run(0..cases() / 10, make, |(text, (turned, width))| {
         let bytes = text.as_bytes();
         let is_gap = |at: &usize| bytes[*at] == b' ' && ![b' ', b'\n'].contains(&bytes[*at + 1]);
         let gaps: Vec<usize> = (0..bytes.len().saturating_sub(1)).filter(is_gap).collect();
@@ -299,7 +299,7 @@ fn other_texts() {
         let after = if rng.one_in(4) { after } else { damage::damaged(rng, &after) };
         (before, (after, width))
     };
-    run(0..cases() / 5, make, |(before, (after, width))| agrees(before, after, *width).map(|_| ()));
+    run(0..cases() / 20, make, |(before, (after, width))| agrees(before, after, *width).map(|_| ()));
 }
 
 // ---- limits

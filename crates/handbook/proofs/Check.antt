@@ -2,24 +2,22 @@
 -- says, at that place, in its order 1 (before, then after), 2, 3, 9, 10, 11, 12.
 use mathlib.Core.Path.{_≡_, refl, sym, ap, _∙_}
 use mathlib.Core.Logic.{_↔_}
-use mathlib.Core.Bool.{Bool, true, false}
 use mathlib.Core.List.{List}
 use Prim.Native.Nat.{ℕ, _≤_, _<_}
 use native.Mathlib.Omega.{arith}
-use lib.Dec.{eqb, ltb}
-use lib.ListN.{length, getD}
+use lib.ListN.{length}
 use borrow.Author.Tests.{lt-ltb, le-ltb, eq-eqb, ne-eqb}
 use Rattle.units.specs.Limits.{textMost, widthMost}
 use Rattle.units.specs.Answers.{success, refusal}
-use Rattle.logic.specs.Choice.{pick}
 use Rattle.chars.specs.Utf8.{firstFault, Whole}
 use Rattle.lines.specs.Breaks.{filled}
 use Rattle.judge.specs.declared.Judged.{Judged}
 use Rattle.judge.specs.declared.Judged.the-variants.{Accepted, TooLong, NotUtf8, TooWide, Lengths, BadChange, WideLine, ManyLines}
 use Rattle.judge.specs.Judge.{changesOf, judgeOf, answerOf}
-use Rattle.judge.specs.Demand.{Limits, AcceptedText}
+use Rattle.judge.specs.Demand.{Limits, AcceptedText, BadAt, WideLineAt, ManyLinesAt}
 use Rattle.judge.proofs.Accepting.{accepts}
 use Rattle.judge.proofs.Filled.{filled-accepted}
+use Rattle.judge.proofs.Refusing.{says-bad, says-wide, says-many, bad-said, wide-said, many-said}
 
 -- The number 0 comes for what is accepted alone.
 zero-accepted : (j : Judged) → answerOf j ≡ success 0 → j ≡ Accepted
@@ -75,6 +73,19 @@ module _ (width : ℕ) (before after : List ℕ) where
           check-lengths d = rw (le-ltb textMost (length before) h, le-ltb textMost (length after) g, le-ltb (firstFault before) (length before) (omega (arith, f)), le-ltb widthMost width w, ne-eqb (length after) (length before) d)
 
           -- Where the lengths agree, it is the changes and then the lines that decide.
-          pub check-changes : length after ≡ length before → judgeOf width before after ≡ changesOf width before after
+          check-changes : length after ≡ length before → judgeOf width before after ≡ changesOf width before after
           unfolding judgeOf
           check-changes e = rw (le-ltb textMost (length before) h, le-ltb textMost (length after) g, le-ltb (firstFault before) (length before) (omega (arith, f)), le-ltb widthMost width w, eq-eqb (length after) (length before) e)
+
+          module _ (e : length after ≡ length before) where
+            -- 10, "some change is not an allowed break | first such byte": the byte is changed and no allowed break, and each byte before it is the same or one.
+            pub check-bad-change : (p : ℕ) → (judgeOf width before after ≡ BadChange (record { 0 = p })) ↔ BadAt before after p
+            check-bad-change p = (λ j. says-bad width before after e (sym (check-changes e) ∙ j), λ h. check-changes e ∙ bad-said width before after e h)
+
+            -- 11, "a line of two or more words is too wide | first byte of the first such line": none of an earlier input line is, and none before it in its own.
+            pub check-wide-line : (p : ℕ) → (judgeOf width before after ≡ WideLine (record { 0 = p })) ↔ WideLineAt width before after p
+            check-wide-line p = (λ j. says-wide width before after e (sym (check-changes e) ∙ j), λ h. check-changes e ∙ wide-said width before after e h)
+
+            -- 12, "an input line has more lines than needed | first byte of the first such input line": a grouping of its words has fewer, and no earlier input line has one.
+            pub check-many-lines : (p : ℕ) → (judgeOf width before after ≡ ManyLines (record { 0 = p })) ↔ ManyLinesAt width before after p
+            check-many-lines p = (λ j. says-many width before after e (sym (check-changes e) ∙ j), λ h. check-changes e ∙ many-said width before after e h)

@@ -1,5 +1,5 @@
--- THE FILL: success and each refusal exactly when document 01 says, in its order 1, 2, 3; what of a text it changes; and what its lines are worth.
-use mathlib.Core.Path.{_≡_, sym, _∙_}
+-- THE FILL: success and each refusal exactly when document 01 says, in its order 1, 2, 3; what of a text it changes; what its lines are worth; and that a filled text is not changed again.
+use mathlib.Core.Path.{_≡_, sym, ap, _∙_}
 use mathlib.Core.List.{List, _∷_, map}
 use Prim.Native.Nat.{ℕ, suc, _≤_, _<_, max}
 use native.Mathlib.Omega.{arith}
@@ -14,13 +14,15 @@ use Rattle.first_fit.specs.Groupings.{Grouping, fit, lines}
 use Rattle.first_fit.proofs.Groupings.{count-met}
 use Rattle.words.specs.declared.Word.{Word}
 use Rattle.words.specs.Words.{words}
-use Rattle.lines.specs.Breaks.{fragmentOf, columnsOf, places, breaksOf, breaks, textBreaks, filled}
+use Rattle.lines.specs.Breaks.{fragmentOf, columnsOf, places, breaksOf, breaks, textBreaks, broken, filled}
 use Rattle.lines.specs.Allowed.{AllowedBreak}
 use Rattle.lines.proofs.Breaking.{broken-length}
 use Rattle.lines.proofs.Rising.{differences, broken-other, broken-there}
 use Rattle.lines.proofs.Allowed.{break-allowed, breaks-counted}
 use Rattle.lines.proofs.Fewest.{breaks-lines, breaks-least, breaks-wider}
 use Rattle.fill.specs.Fill.{fillOf, leaves, answerOf}
+use Rattle.fill.proofs.Again.{again-none}
+use Rattle.fill.proofs.Kept.{filled-whole}
 
 -- ---- success and refusals, each with the text after it
 
@@ -96,3 +98,14 @@ fewest width s others g = breaks-least width s g
 -- A larger width never gives an input line more lines.
 pub wider-no-more : (v w : ℕ) (s : List ℕ) → v ≤ w → length (breaks w s) ≤ length (breaks v s)
 wider-no-more = breaks-wider
+
+-- ---- filled again
+
+-- Filling a text that a fill has written, at the same width, answers count 0 and changes no byte.
+pub filled-again : (width : ℕ) (s : List ℕ) → length s ≤ textMost → Whole s → width ≤ widthMost
+    → (answerOf (fillOf width (filled width s)) ≡ success 0) × (leaves (fillOf width (filled width s)) width (filled width s) ≡ filled width s)
+unfolding filled broken
+filled-again width s l h w =
+    let n = again-none width s in
+    let a = fill-fills width (filled width s) (omega (arith, same-length width s)) (filled-whole width s h) w in
+    (a .0 ∙ ap (λ ps. success (length ps)) n, a .1 ∙ ap (broken (filled width s)) n)

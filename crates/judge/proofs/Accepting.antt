@@ -1,30 +1,30 @@
 -- Demand 3: the check accepts exactly what a person asks it to accept.
-use mathlib.Core.Path.{_≡_, refl, sym, ap, _∙_}
+use mathlib.Core.Path.{_≡_, refl}
 use mathlib.Core.Logic.{_↔_, ⊎-elim}
 use mathlib.Core.Bool.{Bool, true, false}
 use mathlib.Core.List.{List, [], _∷_, List·Memᴰ·head, List·Memᴰ·tail, List·Memᴰ·cases-cons, List·Memᴰ·not-nil}
-use Prim.Native.Nat.{ℕ, suc, _+_, _≤_, _<_}
+use Prim.Native.Nat.{ℕ, _≤_, _<_}
 use native.Mathlib.Omega.{arith}
 use lib.Dec.{eqb, ltb}
 use lib.ListN.{length, getD}
-use borrow.Author.Tests.{eqb-true, eqb-false, ltb-true, ltb-false, lt-ltb, le-ltb, eq-eqb}
+use borrow.Author.Tests.{eqb-true, eqb-false, ltb-true, ltb-false, le-ltb, eq-eqb}
 use Rattle.units.specs.Limits.{textMost, widthMost}
 use Rattle.logic.specs.Choice.{pick}
 use Rattle.logic.specs.Member.{_∈_}
 use Rattle.logic.proofs.Choice.{both, clash}
-use Rattle.chars.specs.Utf8.{firstFault, Whole}
+use Rattle.chars.specs.Utf8.{firstFault}
 use Rattle.chars.proofs.Laws.{fault-fits}
 use Rattle.words.specs.Words.{words}
 use Rattle.lines.specs.Lines.{InputLine, inputLines, bodyOf}
 use Rattle.judge.specs.declared.Found.{Found}
 use Rattle.judge.specs.declared.Found.the-variants.{At, Nowhere}
 use Rattle.judge.specs.declared.Judged.{Judged}
-use Rattle.judge.specs.declared.Judged.the-variants.{Accepted, TooLong, NotUtf8, TooWide, Lengths, BadChange, WideLine, ManyLines}
+use Rattle.judge.specs.declared.Judged.the-variants.{Accepted}
 use Rattle.judge.specs.Change.{changeAt, allowed, firstBadFrom, firstBad}
-use Rattle.judge.specs.Judge.{manyOf, wideIn, manyIn, orElse, firstIn, manyBy, wideBy, linesOf, changesOf, judgeOf}
+use Rattle.judge.specs.Judge.{manyOf, wideIn, manyIn, orElse, firstIn, wideBy, linesOf, changesOf, judgeOf}
 use Rattle.judge.specs.Demand.{Limits, AcceptedLine, AcceptedText}
 use Rattle.judge.proofs.Forming.{at-nowhere, formed-fine, fine-formed}
-use Rattle.judge.proofs.Allowing.{changed-broke, broke-allowed, kept-allowed, broke-is, is-broke, bad-before, bad-there, bad-most}
+use Rattle.judge.proofs.Allowing.{changed-broke, broke-allowed, kept-allowed, broke-is, is-broke, bad-before, bad-there}
 
 -- ---- nothing is found in a text exactly if nothing is found in any line
 
@@ -102,10 +102,10 @@ module _ (width : ℕ) (b a : List ℕ) where
 
   -- ---- and that is demand 3
 
-  line-fine : (l : InputLine) → AcceptedLine width b a l → (wideIn width b a l ≡ Nowhere) × (manyIn width b a l ≡ Nowhere)
+  pub line-fine : (l : InputLine) → AcceptedLine width b a l → (wideIn width b a l ≡ Nowhere) × (manyIn width b a l ≡ Nowhere)
   line-fine l h = let k = formed-fine width a (l .start) (words (bodyOf b l)) (h .fits, h .fewest) in (k .0, rw (k .1))
 
-  fine-line : (l : InputLine) → wideIn width b a l ≡ Nowhere → manyIn width b a l ≡ Nowhere → AcceptedLine width b a l
+  pub fine-line : (l : InputLine) → wideIn width b a l ≡ Nowhere → manyIn width b a l ≡ Nowhere → AcceptedLine width b a l
   fine-line l h g =
       let k = fine-formed width a (l .start) (words (bodyOf b l)) (h, many-none (manyOf width a (l .start) (words (bodyOf b l))) g at-nowhere) in
       record { fits = k .0; fewest = k .1 }

@@ -1,28 +1,24 @@
 -- A changed byte is one that may be changed exactly if it was the last space before a further word of its input line and is a newline now.
 use mathlib.Core.Path.{_≡_, refl, sym, ap, _∙_}
-use mathlib.Core.Logic.{_↔_}
-use mathlib.Core.Bool.{Bool, true, false}
-use mathlib.Core.List.{List, [], _∷_, map, Memᴰ·map, Memᴰ·of-map}
+use mathlib.Core.Bool.{true, false}
+use mathlib.Core.List.{List, Memᴰ·map, Memᴰ·of-map}
 use Prim.Native.Nat.{ℕ, zero, suc, _+_, _-_, _≤_, _<_}
 use native.Mathlib.Omega.{arith}
-use lib.Dec.{eqb, ltb}
-use lib.ListN.{length, getD, take, drop, length-take, length-drop, List·getD-eq-default}
+use lib.Dec.{ltb}
+use lib.ListN.{length, getD, drop, length-take, length-drop}
 use borrow.Author.Tests.{eqb-true, eqb-false, eq-eqb, ne-eqb, ltb-true, ltb-false, lt-ltb}
-use Rattle.logic.specs.Choice.{pick}
 use Rattle.logic.specs.Member.{_∈_}
 use Rattle.logic.proofs.Choice.{both, clash}
 use Rattle.words.specs.declared.Word.{Word}
 use Rattle.words.specs.Words.{space, words}
 use Rattle.words.specs.Lists.{startOf, endOf}
-use Rattle.words.specs.Bytes.{contentOf}
 use Rattle.words.proofs.Theory.{Between, starts-between, later-some}
-use Rattle.lines.specs.Lines.{newline, lineEnd, bodyEnd, inBody, InputLine, lineAt, inputLines, bodyOf}
-use Rattle.lines.proofs.Laws.{line-inside, body-inside, body-length}
+use Rattle.lines.specs.Lines.{newline, lineEnd, bodyEnd, inBody, lineAt, bodyOf}
+use Rattle.lines.proofs.Laws.{body-inside, body-length}
 use Rattle.lines.proofs.Bodies.{in-body-line, line-starts, within, body-byte, end-stops}
-use Rattle.judge.specs.declared.Change.{Change}
-use Rattle.judge.specs.declared.Change.the-variants.{Kept, Break, NotSpace, NotNewline, SpaceFollows, NoWord}
-use Rattle.judge.specs.Change.{changeAt, allowed, firstBadFrom, firstBad}
-use Rattle.judge.specs.Demand.{LastSpace, Allowed}
+use Rattle.judge.specs.declared.Change.the-variants.{Kept, Break}
+use Rattle.judge.specs.Change.{changeAt, allowed, firstBadFrom}
+use Rattle.judge.specs.Demand.{Broken}
 
 -- ---- a further word of a body
 
@@ -79,7 +75,7 @@ module _ (b a : List ℕ) (p : ℕ) where
       let e : lineEnd b i ≡ p = omega (arith, ltb-false p (lineEnd b i) t) in
       absurd (omega (arith, r .blank, rw e at (end-stops b i (omega arith)))))
 
-  pub broke-is : p < length b → Broke → Allowed b a p
+  pub broke-is : p < length b → Broke → Broken b a p
   broke-is l r =
       let v = within b p (omega arith) in
       let i = v .place in
@@ -95,27 +91,27 @@ module _ (b a : List ℕ) (p : ℕ) where
       let y : getD body q 0 ≡ 0x20 → ⊥ = λ z. eqb-false (getD b (suc p) 0) 0x20 (r .letter) (rw (← e) (sym (body-byte b i q (v .inside) (omega (arith, v .from))) ∙ z)) in
       let m = Memᴰ·of-map startOf (words body) (starts-between body q (omega (arith, v .from)) (omega (arith, v .from)) .1 (x, y)) in
       record {
-        was = record { line = lineAt b i; inText = v .among; word = m .0; inLine = m .1; further = omega (arith, m .2, v .from); next = omega (arith, m .2); blank = r .blank };
+        was = record { line = lineAt b i; in-text = v .among; word = m .0; in-line = m .1; further = omega (arith, m .2, v .from); before = omega (arith, m .2); space = r .blank };
         is = r .turned;
       }
 
   -- And the other way.
-  pub is-broke : length a ≡ length b → p < length b → Allowed b a p → Broke
+  pub is-broke : length a ≡ length b → p < length b → Broken b a p → Broke
   is-broke n l h =
       let w = h .was in
-      let v = line-starts b (w .inText) in
+      let v = line-starts b (w .in-text) in
       let i = v .place in
       let body = bodyOf b (lineAt b i) in
-      let m : w .word ∈ words body = rw (v .same) at (w .inLine) in
+      let m : w .word ∈ words body = rw (v .same) at (w .in-line) in
       let g = word-inside body (w .word) m (w .further) in
       let k = word-between body (w .word) m (w .further) in
       let o = body-length b i (v .inside) in
       let u = body-inside b i (v .inside) in
       let s : w .line .start ≡ i = ap (λ x. x .start) (v .same) in
-      let e : i + startOf (w .word) ≡ suc p = omega (arith, w .next) in
+      let e : i + startOf (w .word) ≡ suc p = omega (arith, w .before) in
       let c : getD b (suc p) 0 ≡ 0x20 → ⊥ = λ z. k .1 (body-byte b i (startOf (w .word)) (v .inside) g ∙ rw e z) in
       record {
-        blank = w .blank;
+        blank = w .space;
         turned = h .is;
         letter = ne-eqb (getD b (suc p) 0) 0x20 c;
         inside = in-body-line b i (suc p) (omega arith) (omega (arith, u .1)) ∙ lt-ltb (suc p) (bodyEnd b i) (omega arith);

@@ -1,22 +1,20 @@
 -- What `judge_changes`, `check` and `answer_of` answer, one law for each way through them.
-use mathlib.Core.Path.{_≡_, refl, sym, ap, _∙_}
+use mathlib.Core.Path.{_≡_, sym, _∙_}
 use mathlib.Core.List.{List}
 use Prim.Native.Nat.{ℕ, _≤_, _<_}
 use native.Mathlib.Omega.{arith}
-use lib.Dec.{eqb, ltb}
 use lib.ListN.{length}
 use borrow.Author.Tests.{lt-ltb, le-ltb, eq-eqb, ne-eqb}
 use Rattle.units.specs.declared.Offset.{Offset}
 use Rattle.units.specs.declared.Answer.{Answer}
 use Rattle.units.specs.Limits.{textMost, widthMost}
-use Rattle.logic.specs.Choice.{pick}
 use Rattle.chars.specs.declared.Checked.{Checked}
 use Rattle.chars.specs.declared.Checked.the-variants as utf8
 use Rattle.chars.specs.Utf8.{firstFault, Whole, checked}
 use Rattle.chars.proofs.Reading.{checked-whole, checked-fault}
 use Rattle.lines.specs.Lines.{inputLines}
 use Rattle.judge.specs.declared.Judged.{Judged}
-use Rattle.judge.specs.declared.Judged.the-variants.{Accepted, TooLong, NotUtf8, TooWide, Lengths, BadChange, WideLine, ManyLines}
+use Rattle.judge.specs.declared.Judged.the-variants.{TooLong, NotUtf8, TooWide, Lengths, BadChange}
 use Rattle.judge.specs.Change.{firstBad}
 use Rattle.judge.specs.Judge.{linesOf, changesOf, judgeOf, answerOf}
 

@@ -3,58 +3,35 @@ use mathlib.Core.Path.{_≡_, refl, sym, ap, _∙_, subst}
 use mathlib.Core.Logic.{_⊎_, inl, inr, ⊎-elim}
 use mathlib.Core.Bool.{Bool, true, false}
 use mathlib.Core.List.{List, [], _∷_, _++_, map, List·Memᴰ·head, List·Memᴰ·tail, List·Memᴰ·cases-cons, List·Memᴰ·not-nil, Memᴰ·map, Memᴰ·append-left, Memᴰ·append-right}
-use Prim.Native.Nat.{ℕ, zero, suc, _+_, _-_, _≤_, _<_}
+use Prim.Native.Nat.{ℕ, suc, _+_, _-_, _≤_, _<_}
 use native.Mathlib.Omega.{arith}
 use lib.Dec.{eqb, ltb}
-use lib.ListN.{length, getD, set, length-set}
-use lib.Seq.{getD-set-same, getD-set-other}
-use borrow.Author.Tests.{eqb-true, eqb-false, ltb-true, ltb-false, le-ltb, ne-eqb}
+use lib.ListN.{length}
+use borrow.Author.Tests.{eqb-true, eqb-false, ltb-true, ltb-false, le-ltb}
 use Rattle.logic.specs.Member.{_∈_}
 use Rattle.logic.proofs.Choice.{both}
 use Rattle.logic.proofs.Items.{items-each}
-use Rattle.fragments.specs.Fragments.{Fragment}
 use Rattle.first_fit.specs.FirstFit.{flags}
-use Rattle.first_fit.specs.Groupings.{fit, started, columnsAfter, tooWide}
+use Rattle.first_fit.specs.Groupings.{fit, started, columnsAfter}
 use Rattle.first_fit.proofs.Groupings.{fit-fits}
 use Rattle.words.specs.declared.Word.{Word}
-use Rattle.words.specs.Words.{space, afterWord, wordAt, words}
+use Rattle.words.specs.Words.{afterWord, wordAt, words}
 use Rattle.words.specs.Lists.{startOf}
 use Rattle.words.proofs.Laws.{after-later}
 use Rattle.words.proofs.Counting.{wordsFrom, words-next, words-none}
-use Rattle.lines.specs.Lines.{newline, lineEnd, bodyEnd, InputLine, lineAt, inputLines, bodyOf}
-use Rattle.lines.specs.Breaks.{fragmentOf, columnsOf, places, breaksFrom, breaksOf, breaks, breaksIn, breaksAll, textBreaks, broken, filled}
+use Rattle.lines.specs.Lines.{lineEnd, bodyEnd, InputLine, lineAt, inputLines, bodyOf}
+use Rattle.lines.specs.Breaks.{fragmentOf, columnsOf, places, breaksOf, breaks, breaksIn, breaksAll, textBreaks, filled}
 use Rattle.lines.proofs.Laws.{line-inside, body-inside, body-length}
 use Rattle.lines.proofs.Bodies.{line-starts, line-alone, body-byte}
-use Rattle.lines.proofs.Breaking.{break-before, break-inside, break-line, broken-length}
-use Rattle.judge.specs.declared.Found.the-variants.{Nowhere}
-use Rattle.judge.specs.Judge.{markOf, marks, wideOf, givenOf, neededOf, manyOf}
-use Rattle.judge.specs.Demand.{LastSpace, Allowed, AcceptedLine, AcceptedText}
+use Rattle.lines.proofs.Breaking.{break-inside, break-line, broken-length}
+use Rattle.lines.proofs.Rising.{broken-other, broken-there}
+use Rattle.lines.proofs.Allowed.{break-allowed}
+use Rattle.judge.specs.Judge.{markOf, marks, wideOf, givenOf, neededOf}
+use Rattle.judge.specs.Demand.{AcceptedLine, AcceptedText}
 use Rattle.judge.proofs.Forming.{Fine, fits-wide, fine-formed}
 use Rattle.judge.proofs.Allowing.{word-inside, word-between}
 
--- ---- a byte of a text with newlines at some places
-
-stays-newline : (s ps : List ℕ) (p : ℕ) → getD s p 0 ≡ 0x0A → p < length s → getD (broken s ps) p 0 ≡ 0x0A
-unfolding broken
-stays-newline s [] p e l = e
-stays-newline s (q ∷ ps) p e l =
-    both (eqb p q)
-    (λ t. let z = eqb-true p q t in stays-newline (set s q 0x0A) ps p (rw (← z) (getD-set-same s p 0x0A 0 l)) (rw (length-set s q 0x0A) l))
-    (λ t. stays-newline (set s q 0x0A) ps p (getD-set-other s q p 0x0A 0 (eqb-false p q t) ∙ e) (rw (length-set s q 0x0A) l))
-
-pub broken-in : (s ps : List ℕ) {p : ℕ} → p ∈ ps → p < length s → getD (broken s ps) p 0 ≡ 0x0A
-unfolding broken
-broken-in s [] m l = absurd (List·Memᴰ·not-nil m)
-broken-in s (q ∷ ps) {p} m l =
-    ⊎-elim
-    (λ e. stays-newline (set s q 0x0A) ps p (rw (← e) (getD-set-same s p 0x0A 0 l)) (rw (length-set s q 0x0A) l))
-    (λ k. broken-in (set s q 0x0A) ps k (rw (length-set s q 0x0A) l))
-    (List·Memᴰ·cases-cons m)
-
-pub broken-out : (s ps : List ℕ) (p : ℕ) → (p ∈ ps → ⊥) → getD (broken s ps) p 0 ≡ getD s p 0
-unfolding broken
-broken-out s [] p d = refl
-broken-out s (q ∷ ps) p d = broken-out (set s q 0x0A) ps p (λ m. d (List·Memᴰ·tail m)) ∙ getD-set-other s q p 0x0A 0 (λ e. d (List·Memᴰ·head e))
+-- ---- the places that the fill breaks
 
 member : (p : ℕ) (ps : List ℕ) → (p ∈ ps) ⊎ (p ∈ ps → ⊥)
 member p [] = inr (λ m. List·Memᴰ·not-nil m)
@@ -175,13 +152,13 @@ module _ (width : ℕ) (s : List ℕ) where
       let a = rising-in k ws v r q in
       let b = word-inside body v (among v q) (omega arith) in
       let c : i + startOf v - 1 ≡ i + (startOf v - 1) = omega arith in
-      rw (c, broken-in s (textBreaks width s) (all-in width s (inputLines s) (lineAt s i) {q = startOf v - 1} m (rw z p)) (omega (arith, u .1, t .1))))
+      rw (c, broken-there s (textBreaks width s) (i + (startOf v - 1)) (omega (arith, u .1, t .1)) (all-in width s (inputLines s) (lineAt s i) {q = startOf v - 1} m (rw z p))))
       (λ v q d.
       let a = rising-in k ws v r q in
       let b = word-inside body v (among v q) (omega arith) in
       let f = word-between body v (among v q) (omega arith) in
       let c : i + startOf v - 1 ≡ i + (startOf v - 1) = omega arith in
-      rw (c, broken-out s (textBreaks width s) (i + (startOf v - 1)) (λ p. d (rw z at (own-break i (startOf v - 1) h m (omega arith) p))), ← body-byte s i (startOf v - 1) h (omega arith), f .0))
+      rw (c, broken-other s (textBreaks width s) (i + (startOf v - 1)) (λ p. d (rw z at (own-break i (startOf v - 1) h m (omega arith) p))), ← body-byte s i (startOf v - 1) h (omega arith), f .0))
     where
       some : (t : List ℕ) {a : Word} {l : List Word} → words t ≡ a ∷ l → 0 < length t
       some t {a} {l} q =
@@ -201,34 +178,10 @@ module _ (width : ℕ) (s : List ℕ) where
   unfolding filled textBreaks
   filled-accepted = record {
     lengths = broken-length s (textBreaks width s);
-    changes = λ p l d. changed p l (⊎-elim (λ m. m) (λ o. absurd (d (broken-out s (textBreaks width s) p o))) (member p (textBreaks width s)));
+    changes = λ p l d. ⊎-elim (λ m. record { was = break-allowed width s m .1; is = broken-there s (textBreaks width s) p l m }) (λ o. absurd (d (broken-other s (textBreaks width s) p o))) (member p (textBreaks width s));
     each = λ l m.
         let v = line-starts s m in
         let n : lineAt s (v .place) ∈ inputLines s = rw (v .same) at m in
         let k = fine-formed width (filled width s) (v .place) (words (bodyOf s (lineAt s (v .place)))) (fine-filled (v .place) (v .inside) n (words (bodyOf s (lineAt s (v .place)))) refl) in
         subst (λ (x : InputLine). AcceptedLine width s (filled width s) x) (sym (v .same)) (record { fits = k .0; fewest = k .1 });
   }
-    where
-      changed : (p : ℕ) → p < length s → p ∈ textBreaks width s → Allowed s (broken s (textBreaks width s)) p
-      changed p l m =
-          let r = break-line width s (inputLines s) m in
-          let q = break-before width (bodyOf s (r .0)) (r .3) in
-          let v = line-starts s (r .1) in
-          let a : r .0 .start ≡ v .place = ap (λ x. x .start) (v .same) in
-          let body = bodyOf s (lineAt s (v .place)) in
-          let n : q .word ∈ words body = subst (λ (x : InputLine). q .word ∈ words (bodyOf s x)) (v .same) (q .among) in
-          let b = word-between body (q .word) n (q .further) in
-          let c = word-inside body (q .word) n (q .further) in
-          let e : v .place + (startOf (q .word) - 1) ≡ p = omega (arith, r .4, q .place, q .further) in
-          record {
-            was = record {
-              line = r .0;
-              inText = r .1;
-              word = q .word;
-              inLine = q .among;
-              further = q .further;
-              next = omega (arith, r .4, q .place, q .further);
-              blank = sym (rw e at (body-byte s (v .place) (startOf (q .word) - 1) (v .inside) (omega arith))) ∙ b .0;
-            };
-            is = broken-in s (textBreaks width s) m l;
-          }

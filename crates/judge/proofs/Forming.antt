@@ -1,24 +1,20 @@
 -- An input line by the lines that the text after forms of it: none is too wide exactly if all are good, and it has not too many exactly if no grouping has fewer.
-use mathlib.Core.Path.{_≡_, refl, sym, ap, _∙_, subst}
-use mathlib.Core.Logic.{_↔_}
+use mathlib.Core.Path.{_≡_, refl, ap, _∙_}
 use mathlib.Core.Bool.{Bool, true, false}
-use mathlib.Core.List.{List, [], _∷_, _++_, map}
-use Prim.Native.Nat.{ℕ, suc, _+_, _≤_, _<_, max}
+use mathlib.Core.List.{List, [], _∷_, map}
+use Prim.Native.Nat.{ℕ, suc, _+_, _≤_, _<_}
 use native.Mathlib.Omega.{arith}
 use lib.Dec.{ltb}
 use lib.ListN.{length, length-map}
 use borrow.Author.Tests.{ltb-true, ltb-false, le-ltb}
-use Rattle.logic.specs.Choice.{pick}
 use Rattle.logic.proofs.Choice.{both}
 use Rattle.fragments.specs.Fragments.{Fragment}
-use Rattle.first_fit.specs.FirstFit.{flags}
 use Rattle.first_fit.specs.Groupings.{lineWidth, Good, AllGood, joined, Grouping, fit, started, lineCount, cut, lines, Fits}
 use Rattle.first_fit.specs.Groupings.Fits.{none, fresh, join}
-use Rattle.first_fit.proofs.Groupings.{fit-fits, fits-grouping, lines-count, count-least, count-met}
+use Rattle.first_fit.proofs.Groupings.{fits-grouping, lines-count, count-least, count-met}
 use Rattle.words.specs.declared.Word.{Word}
 use Rattle.words.specs.Lists.{startOf, widthOfWord}
 use Rattle.lines.specs.Breaks.{fragmentOf, columnsOf}
-use Rattle.judge.specs.declared.Found.{Found}
 use Rattle.judge.specs.declared.Found.the-variants.{At, Nowhere}
 use Rattle.judge.specs.Judge.{marks, wideFrom, wideOf, givenOf, neededOf, manyOf}
 use Rattle.judge.specs.Demand.{formedOf}
@@ -128,3 +124,26 @@ module _ (width : ℕ) (after : List ℕ) (start : ℕ) where
       let g = fits-grouping {f = f} k in
       let n = ltb-false (started (fit width (columnsOf w) r)) (started b) (h .1) in
       (g .good, λ others o. omega (arith, count-least o, some-line others o, lines-count k))
+
+  -- Each half by itself.
+  pub fits-good : (ws : List Word) → wideOf width after start ws ≡ Nowhere → AllGood width (formedOf after start ws)
+  unfolding formedOf wideOf AllGood
+  fits-good [] h = tt
+  fits-good (w ∷ ws) h = fits-grouping {f = fragmentOf w} (wide-fits width start 0 (columnsOf w) ws (marks after start ws) (marks-length after start ws ∙ length-map ws fragmentOf) h) .good
+
+  pub good-none : (ws : List Word) → AllGood width (formedOf after start ws) → wideOf width after start ws ≡ Nowhere
+  unfolding formedOf wideOf
+  good-none [] h = refl
+  good-none (w ∷ ws) h = fits-wide width start 0 (columnsOf w) ws (marks after start ws) (formed-fits width (fragmentOf w) (map fragmentOf ws) (marks after start ws) (marks-length after start ws) h)
+
+  pub many-fewer : (ws : List Word) → wideOf width after start ws ≡ Nowhere → manyOf width after start ws ≡ true
+      → (others : List (List Fragment)) × Grouping width (map fragmentOf ws) others × (length others < length (formedOf after start ws))
+  unfolding formedOf wideOf givenOf neededOf lineCount
+  many-fewer [] h g = absurd (omega (arith, ltb-true 0 0 g))
+  many-fewer (w ∷ ws) h g =
+      let f = fragmentOf w in
+      let r = map fragmentOf ws in
+      let b = marks after start ws in
+      let k = wide-fits width start 0 (columnsOf w) ws b (marks-length after start ws ∙ length-map ws fragmentOf) h in
+      let m = count-met width f r in
+      (lines f r (fit width (columnsOf w) r), m .0, omega (arith, m .1, lines-count k, ltb-true (started (fit width (columnsOf w) r)) (started b) g))

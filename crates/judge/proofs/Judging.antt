@@ -1,13 +1,12 @@
 -- The loop over the words of an input line: what is too wide, and how many lines there are and are needed, is what the words still to come make of the lines that stand.
 use mathlib.Core.Path.{_≡_, refl, sym, ap, _∙_}
-use mathlib.Core.Bool.{Bool, true, false, not, _&&_}
-use mathlib.Core.List.{List, [], _∷_, map}
-use Prim.Native.Nat.{ℕ, suc, _+_, _-_, _*_, _≤_, _<_}
-use native.Mathlib.Nat.{zero-add}
+use mathlib.Core.Bool.{Bool, true, false}
+use mathlib.Core.List.{List, _∷_, map}
+use Prim.Native.Nat.{ℕ, _+_, _-_, _*_, _≤_, _<_}
 use native.Mathlib.Omega.{arith}
-use lib.Dec.{eqb, ltb}
+use lib.Dec.{ltb}
 use lib.ListN.{length, getD, drop}
-use borrow.Author.Tests.{lt-ltb, le-ltb, ltb-true, ltb-false}
+use borrow.Author.Tests.{lt-ltb, le-ltb}
 use mir.Syntax.{w64}
 use mir.Val.{Fits}
 use Rattle.units.specs.declared.Offset.{Offset}
@@ -15,24 +14,21 @@ use Rattle.units.specs.Limits.{textMost}
 use Rattle.logic.specs.Choice.{pick}
 use Rattle.logic.proofs.Choice.{both}
 use Rattle.chars.specs.Utf8.{Whole}
-use Rattle.fragments.specs.Fragments.{Fragment}
 use Rattle.first_fit.specs.FirstFit.{flags}
-use Rattle.first_fit.specs.Groupings.{fit, started, tooWide, columnsAfter}
+use Rattle.first_fit.specs.Groupings.{fit, started}
 use Rattle.words.specs.declared.Word.{Word}
 use Rattle.words.specs.Words.{afterWord, wordAt, words}
-use Rattle.words.specs.Lists.{startOf, whiteOf, widthOfWord}
+use Rattle.words.specs.Lists.{startOf, widthOfWord}
 use Rattle.words.proofs.Counting.{wordsFrom, words-next, words-none}
 use Rattle.lines.specs.declared.Met.{Met}
 use Rattle.lines.specs.Lines.{newline}
 use Rattle.lines.specs.Breaks.{fragmentOf, columnsOf}
 use Rattle.lines.specs.Walk.{metAt, startsAt}
-use Rattle.lines.proofs.Walk.{Stays, met-stays, met-whole}
-use Rattle.judge.specs.declared.Found.{Found}
-use Rattle.judge.specs.declared.Found.the-variants.{At, Nowhere}
+use Rattle.lines.proofs.Walk.{met-stays, met-whole}
+use Rattle.judge.specs.declared.Found.the-variants.{Nowhere}
 use Rattle.judge.specs.declared.Line.{Line}
-use Rattle.judge.specs.declared.Lined.{Lined}
 use Rattle.judge.specs.declared.Lined.the-variants.{Good, Wide, Many}
-use Rattle.judge.specs.Judge.{markOf, marks, wideFrom, wideOf, givenOf, neededOf, manyOf, linedBy, linedOf, Room, wideAt, placedOf}
+use Rattle.judge.specs.Judge.{marks, wideFrom, wideOf, givenOf, neededOf, manyOf, linedBy, linedOf, Room, wideAt, placedOf}
 
 -- ---- one more word
 

@@ -7,3 +7,4 @@ pub mod Forming
 pub mod Allowing
 pub mod Accepting
 pub mod Filled
+pub mod Refusing

@@ -1,10 +1,8 @@
--- The lines of an input line while its words are read, and the loop over them: what was found too wide, and how many lines came, are what is still to come makes of it.
-use mathlib.Core.Path.{_≡_, refl, sym, ap, _∙_}
-use mathlib.Core.Bool.{Bool, true, false, not, _&&_}
-use mathlib.Core.List.{List, [], _∷_, map}
-use Prim.Native.Nat.{ℕ, suc, _+_, _-_, _*_, _^_, _≤_, _<_}
+-- What `placed` and `many_next` answer, one law for each way through them.
+use mathlib.Core.Path.{_≡_}
+use mathlib.Core.Bool.{Bool, true, false}
+use Prim.Native.Nat.{ℕ, _+_, _-_}
 use native.Mathlib.Numerals.{add-one}
-use native.Mathlib.Omega.{arith}
 use Rattle.units.specs.declared.Offset.{Offset}
 use Rattle.lines.specs.declared.Met.{Met}
 use Rattle.judge.specs.declared.Line.{Line}

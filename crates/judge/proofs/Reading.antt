@@ -8,25 +8,23 @@ use native.Mathlib.Numerals.{add-one}
 use native.Mathlib.Omega.{arith}
 use mir.Syntax.{w64}
 use mir.Val.{Fits}
-use lib.ListN.{length, getD, take, drop}
+use lib.ListN.{length, take, drop}
 use types.Run.{OneOf}
 use denote.Enum.Declared.{tagOf}
 use Rattle.units.specs.declared.Offset.{Offset}
 use Rattle.units.specs.Limits.{textMost}
 use Rattle.logic.specs.Choice.{pick}
-use Rattle.logic.proofs.Choice.{both}
 use Rattle.chars.specs.Utf8.{Whole}
 use Rattle.words.specs.Words.{words}
-use Rattle.lines.specs.Lines.{lineEnd, bodyEnd, nextLine, InputLine, lineAt, inputLines, bodyOf}
+use Rattle.lines.specs.Lines.{lineEnd, bodyEnd, lineAt, inputLines, bodyOf}
 use Rattle.lines.proofs.Laws.{linesFrom, lines-start, lines-next, lines-none, line-inside, body-inside, next-is, slice-mid, body-length, body-whole, next-whole}
 use Rattle.judge.specs.declared.Found.{Found}
 use Rattle.judge.specs.declared.Found.the-variants.{At, Nowhere}
 use Rattle.judge.specs.declared.Lined.{Lined}
 use Rattle.judge.specs.declared.Lined.the-variants.{Good, Wide, Many}
-use Rattle.judge.specs.declared.Judged.{Judged}
 use Rattle.judge.specs.declared.Judged.the-variants.{Accepted, WideLine, ManyLines}
 use Rattle.judge.proofs.Lined as lined
-use Rattle.judge.specs.Judge.{wideOf, manyOf, linedBy, linedOf, wideIn, manyIn, orElse, firstIn, manyBy, wideBy, linesOf, manyNext}
+use Rattle.judge.specs.Judge.{manyOf, linedBy, linedOf, wideIn, manyIn, orElse, firstIn, linesOf, manyNext}
 
 pub record Reading (width : ℕ) (before after : List ℕ) (many : Found) (at : ℕ) : Type 0 where
   pub whole : Whole (drop at before)

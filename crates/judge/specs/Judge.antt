@@ -12,7 +12,7 @@ use Rattle.logic.specs.Choice.{pick}
 use Rattle.chars.specs.Utf8.{firstFault}
 use Rattle.words.specs.declared.Word.{Word}
 use Rattle.words.specs.Words.{words}
-use Rattle.words.specs.Lists.{startOf, whiteOf, widthOfWord}
+use Rattle.words.specs.Lists.{startOf, widthOfWord}
 use Rattle.first_fit.specs.Groupings.{fit, started}
 use Rattle.lines.specs.Lines.{InputLine, inputLines, bodyOf, newline}
 use Rattle.lines.specs.declared.Met.{Met}

@@ -27,7 +27,7 @@ line-at s i =
     i tt
 
 -- A byte of a line's body is the text's.
-body-byte : (s : List ℕ) (i q : ℕ) → i ≤ length s → q < length (bodyOf s (lineAt s i)) → getD (bodyOf s (lineAt s i)) q 0 ≡ getD s (i + q) 0
+pub body-byte : (s : List ℕ) (i q : ℕ) → i ≤ length s → q < length (bodyOf s (lineAt s i)) → getD (bodyOf s (lineAt s i)) q 0 ≡ getD s (i + q) 0
 body-byte s i q l h = getD-drop i (take (bodyEnd s i) s) q 0 ∙ getD-take (bodyEnd s i) s (i + q) 0 (omega (arith, h, body-length s i l))
 
 at-allowed : (s : List ℕ) (i q p : ℕ) → i ≤ length s → lineAt s i ∈ inputLines s → Before (bodyOf s (lineAt s i)) q → p ≡ i + q → (p < length s) × AllowedBreak s p

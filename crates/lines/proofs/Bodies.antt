@@ -1,11 +1,11 @@
 -- The laws of a place in its input line and in that line's body.
 use mathlib.Core.Path.{_≡_, refl, sym, ap, _∙_}
 use mathlib.Core.Logic.{⊎-elim}
-use mathlib.Core.Bool.{Bool, true, false, not}
+use mathlib.Core.Bool.{Bool, false}
 use mathlib.Core.List.{List, [], _∷_, List·Memᴰ·head, List·Memᴰ·tail, List·Memᴰ·cases-cons, List·Memᴰ·not-nil}
 use Prim.Native.Nat.{ℕ, zero, suc, _+_, _-_, _≤_, _<_}
 use native.Mathlib.Omega.{arith}
-use lib.Dec.{eqb, ltb}
+use lib.Dec.{ltb}
 use lib.ListN.{length, getD, take, drop, drop-of-length-le}
 use lib.Seq.{drop-drop, getD-drop, getD-take}
 use borrow.Author.Tests.{eqb-true, lt-ltb, le-ltb, ltb-true, ltb-false, not-false}
@@ -13,7 +13,7 @@ use Rattle.logic.specs.Count.{count}
 use Rattle.logic.specs.Member.{_∈_}
 use Rattle.logic.proofs.Choice.{both}
 use Rattle.logic.proofs.Count.{count-none, count-some, count-drop, run-stops}
-use Rattle.lines.specs.Lines.{newline, inLine, lineEnd, bodyEnd, inBody, nextLine, InputLine, lineAt, inputLines, bodyOf}
+use Rattle.lines.specs.Lines.{inLine, lineEnd, bodyEnd, inBody, nextLine, InputLine, lineAt, inputLines, bodyOf}
 use Rattle.lines.proofs.Laws.{linesFrom, lines-start, lines-next, lines-none, next-later, next-is, body-length}
 
 -- What `in_body` answers, one law for each way through it.

@@ -21,7 +21,7 @@ use Rattle.words.proofs.Counting.{wordsFrom, words-next, words-none}
 use Rattle.lines.specs.Lines.{lineAt, nextLine, bodyOf}
 use Rattle.lines.specs.Breaks.{fragmentOf, columnsOf, places, breaksFrom, breaksOf, breaks, breaksIn, breaksAll, textBreaks, broken}
 use Rattle.lines.proofs.Laws.{linesFrom, lines-start, next-later, next-is, body-inside, body-length}
-use Rattle.lines.proofs.Walk.{drop-on}
+use Rattle.lines.proofs.Walk.{drop-on, later}
 use Rattle.lines.proofs.Breaking.{break-inside}
 
 -- Numbers that rise, from k on.
@@ -29,19 +29,19 @@ unfoldable pub Rising : ℕ → List ℕ → Type 0
 Rising k [] = Unit {0}
 Rising k (p ∷ ps) = (k ≤ p) × Rising (suc p) ps
 
-rising-lower : {j k : ℕ} (ps : List ℕ) → j ≤ k → Rising k ps → Rising j ps
+pub rising-lower : {j k : ℕ} (ps : List ℕ) → j ≤ k → Rising k ps → Rising j ps
 unfolding Rising
 rising-lower [] h r = tt
 rising-lower (p ∷ ps) h r = (omega (arith, r .0), r .1)
 
-rising-shift : (i k : ℕ) (ps : List ℕ) → Rising k ps → Rising (i + k) (map (λ p. i + p) ps)
+pub rising-shift : (i k : ℕ) (ps : List ℕ) → Rising k ps → Rising (i + k) (map (λ p. i + p) ps)
 unfolding Rising
 rising-shift i k [] r = tt
 rising-shift i k (p ∷ ps) r =
     let e : i + suc p ≡ suc (i + p) = omega arith in
     (omega (arith, r .0), rw e at (rising-shift i (suc p) ps (r .1)))
 
-rising-append : (k m : ℕ) (ps qs : List ℕ) → Rising k ps → k ≤ m → ((p : ℕ) → p ∈ ps → p < m) → Rising m qs → Rising k (ps ++ qs)
+pub rising-append : (k m : ℕ) (ps qs : List ℕ) → Rising k ps → k ≤ m → ((p : ℕ) → p ∈ ps → p < m) → Rising m qs → Rising k (ps ++ qs)
 unfolding Rising
 rising-append k m [] qs r h f s = rising-lower qs h s
 rising-append k m (p ∷ ps) qs r h f s = (r .0, rising-append (suc p) m ps qs (r .1) (f p (List·Memᴰ·head refl)) (λ q n. f q (List·Memᴰ·tail n)) s)
@@ -62,6 +62,12 @@ places-rise s i =
     step j ws l h f (true ∷ b) = (omega arith, rising-lower (places ws b) (omega arith) (f b))
     step j ws l h f (false ∷ b) = rising-lower (places ws b) (omega arith) (f b)
 
+-- The breaks from a further word's start on rise from the byte before it.
+pub later-rises : (width c : ℕ) (s : List ℕ) (i : ℕ) → 0 < i → Rising (i - 1) (later width c s i)
+unfolding later
+later-rises width c s zero l = absurd (omega arith)
+later-rises width c s (suc i) l = places-rise s (suc i) l (fit width c (map fragmentOf (wordsFrom s (suc i))))
+
 breaks-rise : (width : ℕ) (s : List ℕ) → Rising 0 (breaks width s)
 unfolding Rising breaks words breaksOf
 breaks-rise width s =
@@ -79,7 +85,7 @@ in-line width s i l p m =
     let b = break-inside width (bodyOf s (lineAt s i)) (f .1) in
     omega (arith, f .2, b, body-length s i l, body-inside s i l .0, body-inside s i l .1, next-is s i)
 
-all-rise : (width : ℕ) (s : List ℕ) (i : ℕ) → Rising i (breaksAll width s (linesFrom s i))
+pub all-rise : (width : ℕ) (s : List ℕ) (i : ℕ) → Rising i (breaksAll width s (linesFrom s i))
 unfolding Rising breaksAll
 all-rise width s i =
     items-each (lineAt s) (nextLine s) (suc (length s)) (λ j. Unit {0}) (λ j u l. (next-later s j, tt))

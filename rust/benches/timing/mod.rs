@@ -18,9 +18,15 @@ pub struct Table;
 
 impl Table {
     /// Prints the head of a table of times for one unit, as a byte.
+    #[allow(dead_code)]
     pub fn new(what: &str, unit: &str) -> Table {
-        let (ours, theirs) = (format!("ours ns/{unit}"), format!("crate ns/{unit}"));
-        println!("{what:<30} {ours:>18} {theirs:>18} {:>14}", "crate / ours");
+        Table::of(what, unit, "ours", "crate")
+    }
+
+    /// The same for two things of any name.
+    pub fn of(what: &str, unit: &str, first: &str, second: &str) -> Table {
+        let (one, other) = (format!("{first} ns/{unit}"), format!("{second} ns/{unit}"));
+        println!("{what:<30} {one:>18} {other:>18} {:>14}", format!("{second} / {first}"));
         Table
     }
 
