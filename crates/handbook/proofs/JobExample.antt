@@ -1,6 +1,6 @@
 -- THE WHOLE EXAMPLE of document 01's job program: `57 4A 03 00 05 61 20 62 20 63` gives `57 52 00 00 01 00 05 61 20 62 0A 63`. The definitions compute, so the proof is to compute them.
 use mathlib.Core.Path.{_≡_, refl}
-use mathlib.Core.List.{List, [], _∷_}
+use mathlib.Core.List.{[], _∷_}
 use Rattle.logic.specs.Count.{count}
 use Rattle.logic.specs.Items.{items, itemsFor}
 use Rattle.chars.specs.Utf8.{utf8-1, head4, decodeFrom, bytes, firstFault}

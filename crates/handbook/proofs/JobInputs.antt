@@ -1,7 +1,7 @@
 -- EVERY INPUT of the job program is whole jobs, one after the other, and then the end, a single byte, a wrong mark or a record that is cut; and its replies are those to the jobs, in order, and then nothing, 14,
 -- 13 or 14.
 use mathlib.Core.Path.{_≡_, ap, _∙_}
-use mathlib.Core.Bool.{true, false}
+use mathlib.Core.Bool.{false}
 use mathlib.Core.List.{List, [], _∷_, _++_}
 use Prim.Native.Nat.{ℕ, zero, suc, _+_, _*_, _/_, _%_, _≤_, _<_}
 use native.Mathlib.Omega.{arith}

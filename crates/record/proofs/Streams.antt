@@ -18,10 +18,9 @@ use Rattle.fill.specs.declared.Filled.the-variants.{Changed, TooLong, NotUtf8, 
 use Rattle.fill.specs.Fill.{fillOf, answerOf}
 use Rattle.record.specs.declared.Head.{Head}
 use Rattle.record.specs.declared.Head.the-variants.{End, Refused, Job}
-use Rattle.record.specs.declared.Reply.{Reply}
 use Rattle.record.specs.Record.{headBytes, isJob, headOf, answerTo, textAfter, replyOf, settled, bytesOf}
 use Rattle.record.specs.Stream.{jobReply, jobBytes, served, goesOn, furtherBytes, repliesAfter, replies, jobRecord, replyRecord, lastReply}
-use Rattle.record.proofs.Heads.{head-one, head-wrong, head-short, head-job}
+use Rattle.record.proofs.Heads.{head-wrong, head-short, head-job}
 
 -- ---- an input from its first record on
 

@@ -3,7 +3,6 @@ use Prim.Native.Nat.{_-_, _^_, _<_}
 use borrow.Author.Needs.{needs}
 use Rattle.job_cases.proofs.main.Statement.{statement}
 use Rattle.job_cases.proofs.main.Tie as tie
-use Rattle.job_cases.proofs.main.Lts as lts
 
 abbrev Inv-loop : tie.InvT-loop
 Inv-loop count k₀ k = count < 2 ^ 64

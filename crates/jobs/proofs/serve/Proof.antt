@@ -5,7 +5,6 @@ use Rattle.units.specs.Limits.{textMost}
 use borrow.Author.Needs.{needs}
 use Rattle.jobs.proofs.serve.Statement.{statement}
 use Rattle.jobs.proofs.serve.Tie as tie
-use Rattle.jobs.proofs.serve.Lts as lts
 
 abbrev Inv-loop : tie.InvT-loop
 Inv-loop buffer₀ input output left₀ buffer left = length buffer ≡ textMost

@@ -3,7 +3,6 @@ use Rattle.record.proofs.Heads.{heading, head-job}
 use borrow.Author.Needs.{needs}
 use Rattle.record.proofs.head_of.Statement.{statement}
 use Rattle.record.proofs.head_of.Tie as tie
-use Rattle.record.proofs.head_of.Lts as lts
 
 returns : tie.Need-returns
 returns c = search (heading, needs)

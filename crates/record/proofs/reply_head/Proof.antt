@@ -3,7 +3,6 @@ use Rattle.record.proofs.Replying.{replying}
 use borrow.Author.Needs.{needs}
 use Rattle.record.proofs.reply_head.Statement.{statement}
 use Rattle.record.proofs.reply_head.Tie as tie
-use Rattle.record.proofs.reply_head.Lts as lts
 
 element-copy-out-t9 : tie.Need-element-copy-out-t9
 element-copy-out-t9 c = search needs

@@ -3,7 +3,6 @@ use Rattle.record.proofs.Replying.{replying}
 use borrow.Author.Needs.{needs}
 use Rattle.record.proofs.reply_of.Statement.{statement}
 use Rattle.record.proofs.reply_of.Tie as tie
-use Rattle.record.proofs.reply_of.Lts as lts
 
 reply-head-requires : tie.Need-reply-head-requires
 reply-head-requires c κs = search needs

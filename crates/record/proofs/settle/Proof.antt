@@ -3,7 +3,6 @@ use Rattle.record.proofs.Replying.{replying}
 use borrow.Author.Needs.{needs}
 use Rattle.record.proofs.settle.Statement.{statement}
 use Rattle.record.proofs.settle.Tie as tie
-use Rattle.record.proofs.settle.Lts as lts
 
 refused-requires : tie.Need-refused-requires
 refused-requires c κs = search needs
