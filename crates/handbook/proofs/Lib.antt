@@ -3,6 +3,7 @@ pub mod Characters
 pub mod Columns
 pub mod Measuring
 pub mod Words
+pub mod Reading
 pub mod Pieces
 pub mod Listing
 pub mod FirstFit
