@@ -8,6 +8,7 @@ pub mod Pieces
 pub mod Listing
 pub mod FirstFit
 pub mod LeastCost
+pub mod InputLines
 pub mod Fill
 pub mod Check
 pub mod Jobs

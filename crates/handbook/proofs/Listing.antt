@@ -7,7 +7,6 @@ use lib.ListN.{length}
 use borrow.Author.Tests.{lt-ltb, le-ltb}
 use Rattle.units.specs.Limits.{textMost, widthMost}
 use Rattle.units.specs.Answers.{success, refusal}
-use Rattle.logic.specs.Choice.{pick}
 use Rattle.chars.specs.Utf8.{firstFault, Whole}
 use Rattle.words.specs.declared.Word.{Word}
 use Rattle.words.specs.Words.{words}
