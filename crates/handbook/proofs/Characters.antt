@@ -5,7 +5,7 @@ use mathlib.Core.Bool.{true}
 use mathlib.Core.List.{List, _∷_, _++_}
 use Prim.Native.Nat.{ℕ, _-_, _<_}
 use lib.ListN.{length}
-use Rattle.chars.specs.Utf8.{Head, Found, Nothing, headOf, decode, firstFault, Whole}
+use Rattle.chars.specs.Utf8.{Found, Nothing, headOf, decode, firstFault, Whole}
 use Rattle.chars.specs.Encoding.{scalar, encode, encodeAll, Scalars}
 use Rattle.chars.proofs.Encoding as encoding
 use Rattle.chars.proofs.Laws as laws

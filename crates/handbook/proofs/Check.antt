@@ -5,10 +5,13 @@ use mathlib.Core.Logic.{_↔_}
 use mathlib.Core.List.{List}
 use Prim.Native.Nat.{ℕ, _≤_, _<_}
 use native.Mathlib.Omega.{arith}
+use lib.Dec.{eqb}
 use lib.ListN.{length}
 use borrow.Author.Tests.{lt-ltb, le-ltb, eq-eqb, ne-eqb}
+use Rattle.units.specs.declared.Answer.{Answer}
 use Rattle.units.specs.Limits.{textMost, widthMost}
 use Rattle.units.specs.Answers.{success, refusal}
+use Rattle.logic.specs.Choice.{pick}
 use Rattle.chars.specs.Utf8.{firstFault, Whole}
 use Rattle.lines.specs.Breaks.{filled}
 use Rattle.judge.specs.declared.Judged.{Judged}
@@ -19,17 +22,31 @@ use Rattle.judge.proofs.Accepting.{accepts}
 use Rattle.judge.proofs.Filled.{filled-accepted}
 use Rattle.judge.proofs.Refusing.{says-bad, says-wide, says-many, bad-said, wide-said, many-said}
 
--- The number 0 comes for what is accepted alone.
-zero-accepted : (j : Judged) → answerOf j ≡ success 0 → j ≡ Accepted
-unfolding answerOf
-zero-accepted Accepted e = refl
-zero-accepted (TooLong l) e = let z : _≡_ {A = ℕ} 1 0 = ap (λ x. x .number) e in absurd (omega arith)
-zero-accepted (NotUtf8 o) e = let z : _≡_ {A = ℕ} 2 0 = ap (λ x. x .number) e in absurd (omega arith)
-zero-accepted TooWide e = let z : _≡_ {A = ℕ} 3 0 = ap (λ x. x .number) e in absurd (omega arith)
-zero-accepted Lengths e = let z : _≡_ {A = ℕ} 9 0 = ap (λ x. x .number) e in absurd (omega arith)
-zero-accepted (BadChange o) e = let z : _≡_ {A = ℕ} 10 0 = ap (λ x. x .number) e in absurd (omega arith)
-zero-accepted (WideLine o) e = let z : _≡_ {A = ℕ} 11 0 = ap (λ x. x .number) e in absurd (omega arith)
-zero-accepted (ManyLines o) e = let z : _≡_ {A = ℕ} 12 0 = ap (λ x. x .number) e in absurd (omega arith)
+-- Each answer has numbers of its own, so that what is said of the numbers is said of the answer.
+judgedOf : Answer → Judged
+judgedOf a =
+    pick (eqb (a .number) 0) Accepted
+    (pick (eqb (a .number) 1) (TooLong (record { 0 = a .place }))
+    (pick (eqb (a .number) 2) (NotUtf8 (record { 0 = a .place }))
+    (pick (eqb (a .number) 3) TooWide
+    (pick (eqb (a .number) 9) Lengths
+    (pick (eqb (a .number) 10) (BadChange (record { 0 = a .place }))
+    (pick (eqb (a .number) 11) (WideLine (record { 0 = a .place }))
+    (ManyLines (record { 0 = a .place }))))))))
+
+told-back : (j : Judged) → judgedOf (answerOf j) ≡ j
+unfolding judgedOf answerOf
+told-back Accepted = refl
+told-back (TooLong l) = refl
+told-back (NotUtf8 o) = refl
+told-back TooWide = refl
+told-back Lengths = refl
+told-back (BadChange o) = refl
+told-back (WideLine o) = refl
+told-back (ManyLines o) = refl
+
+told : (j k : Judged) → answerOf j ≡ answerOf k → j ≡ k
+told j k e = sym (told-back j) ∙ ap judgedOf e ∙ told-back k
 
 -- The check accepts exactly if the text before and the width are within the limits and: lengths agree; each changed byte was the last space before a further word of its input line and is now a newline; each
 -- line so formed holds one word or fits; and no other grouping of an input line's words has fewer lines.
@@ -37,7 +54,7 @@ pub check-accepts : (width : ℕ) (before after : List ℕ) → (answerOf (judge
 unfolding answerOf
 check-accepts width before after =
     let a = accepts width before after in
-    (λ e. a .0 (zero-accepted (judgeOf width before after) e), λ h. ap answerOf (a .1 h))
+    (λ e. a .0 (told (judgeOf width before after) Accepted e), λ h. ap answerOf (a .1 h))
 
 -- "Whatever the in-place fill writes at that width is accepted against the text it was given."
 pub check-filled : (width : ℕ) (text : List ℕ) → Limits width text → answerOf (judgeOf width text (filled width text)) ≡ success 0
@@ -79,13 +96,19 @@ module _ (width : ℕ) (before after : List ℕ) where
 
           module _ (e : length after ≡ length before) where
             -- 10, "some change is not an allowed break | first such byte": the byte is changed and no allowed break, and each byte before it is the same or one.
-            pub check-bad-change : (p : ℕ) → (judgeOf width before after ≡ BadChange (record { 0 = p })) ↔ BadAt before after p
-            check-bad-change p = (λ j. says-bad width before after e (sym (check-changes e) ∙ j), λ h. check-changes e ∙ bad-said width before after e h)
+            pub check-bad-change : (p : ℕ) → (answerOf (judgeOf width before after) ≡ refusal 10 p) ↔ BadAt before after p
+            unfolding answerOf
+            check-bad-change p =
+                (λ a. says-bad width before after e (sym (check-changes e) ∙ told (judgeOf width before after) (BadChange (record { 0 = p })) a), λ h. ap answerOf (check-changes e ∙ bad-said width before after e h))
 
             -- 11, "a line of two or more words is too wide | first byte of the first such line": none of an earlier input line is, and none before it in its own.
-            pub check-wide-line : (p : ℕ) → (judgeOf width before after ≡ WideLine (record { 0 = p })) ↔ WideLineAt width before after p
-            check-wide-line p = (λ j. says-wide width before after e (sym (check-changes e) ∙ j), λ h. check-changes e ∙ wide-said width before after e h)
+            pub check-wide-line : (p : ℕ) → (answerOf (judgeOf width before after) ≡ refusal 11 p) ↔ WideLineAt width before after p
+            unfolding answerOf
+            check-wide-line p =
+                (λ a. says-wide width before after e (sym (check-changes e) ∙ told (judgeOf width before after) (WideLine (record { 0 = p })) a), λ h. ap answerOf (check-changes e ∙ wide-said width before after e h))
 
             -- 12, "an input line has more lines than needed | first byte of the first such input line": a grouping of its words has fewer, and no earlier input line has one.
-            pub check-many-lines : (p : ℕ) → (judgeOf width before after ≡ ManyLines (record { 0 = p })) ↔ ManyLinesAt width before after p
-            check-many-lines p = (λ j. says-many width before after e (sym (check-changes e) ∙ j), λ h. check-changes e ∙ many-said width before after e h)
+            pub check-many-lines : (p : ℕ) → (answerOf (judgeOf width before after) ≡ refusal 12 p) ↔ ManyLinesAt width before after p
+            unfolding answerOf
+            check-many-lines p =
+                (λ a. says-many width before after e (sym (check-changes e) ∙ told (judgeOf width before after) (ManyLines (record { 0 = p })) a), λ h. ap answerOf (check-changes e ∙ many-said width before after e h))

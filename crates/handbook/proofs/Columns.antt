@@ -1,5 +1,5 @@
 -- COLUMNS, in the words of document 01, "Columns". The width of characters is settled by the first three; the others say what an escape skips.
-use mathlib.Core.Path.{_≡_, refl}
+use mathlib.Core.Path.{_≡_}
 use mathlib.Core.Bool.{true, _&&_, _||_}
 use mathlib.Core.List.{List, [], _∷_, _++_}
 use Prim.Native.Nat.{ℕ, _+_, _*_, _≤_, _<_}

@@ -1,22 +1,19 @@
 -- FIRST FIT: success and each refusal exactly when document 01 says, in its order 5, 4, 3, 7; and what first fit is worth: at one width and with no penalty widths no grouping of the words has fewer
 -- lines, and a larger width never needs more. `room` is the places of the list of ends.
 use mathlib.Core.Path.{_≡_}
-use mathlib.Core.Bool.{Bool, true}
 use mathlib.Core.List.{List, [], _∷_}
 use Prim.Native.Nat.{ℕ, _+_, _≤_, _<_, max}
-use native.Mathlib.Omega.{arith}
 use lib.Dec.{leb}
 use lib.ListN.{length, getD}
 use borrow.Author.Tests.{lt-ltb, le-ltb, eq-eqb, ne-eqb, leb-true, leb-false}
 use Rattle.units.specs.Limits.{fragmentsMost, widthMost}
 use Rattle.units.specs.Answers.{success, refusal}
-use Rattle.logic.specs.Choice.{pick}
 use Rattle.logic.proofs.Count.{count-passes, count-stops}
 use Rattle.fragments.specs.Fragments.{Fragment, fragments}
 use Rattle.fragments.specs.Lists.{firstAbove, testedOf}
 use Rattle.fragments.specs.Answers as laid
 use Rattle.first_fit.specs.FirstFit.{lineEnds}
-use Rattle.first_fit.specs.Entry.{laidOf, firstFitOf}
+use Rattle.first_fit.specs.Entry.{firstFitOf}
 use Rattle.first_fit.specs.Groupings.{Grouping, fit, lines, lineCount}
 use Rattle.first_fit.proofs.Groupings.{count-met}
 use Rattle.first_fit.proofs.OneWidth.{zeros-bare, lines-counted, first-fit-least, first-fit-wider}

@@ -3,10 +3,12 @@ pub mod Characters
 pub mod Columns
 pub mod Measuring
 pub mod Words
+pub mod Reading
 pub mod Pieces
 pub mod Listing
 pub mod FirstFit
 pub mod LeastCost
+pub mod InputLines
 pub mod Fill
 pub mod Check
 pub mod Jobs

@@ -1,5 +1,5 @@
 -- MEASURE: success and each refusal exactly when document 01 says, in its order: 1, then 2.
-use mathlib.Core.Path.{_≡_, refl}
+use mathlib.Core.Path.{_≡_}
 use mathlib.Core.List.{List}
 use Prim.Native.Nat.{ℕ, _≤_, _<_}
 use native.Mathlib.Omega.{arith}
@@ -7,7 +7,6 @@ use lib.ListN.{length}
 use borrow.Author.Tests.{lt-ltb, le-ltb}
 use Rattle.units.specs.Limits.{textMost}
 use Rattle.units.specs.Answers.{success, refusal}
-use Rattle.logic.specs.Choice.{pick}
 use Rattle.chars.specs.Utf8.{firstFault, Whole}
 use Rattle.measure.specs.Escapes.{widthOf}
 use Rattle.measure.specs.Measure.{measureOf, answerOf}

@@ -1,4 +1,4 @@
--- The starred examples of document 01, as one table: what the definitions give, a row each, beside what the document says.
+-- The starred examples of document 01, as one table, a row each. `Examples` of proofs/ proves all rows together.
 use Prim.Native.Nat.{ℕ}
 use mathlib.Core.List.{List, [], _∷_, _++_, map}
 use Rattle.units.specs.declared.Answer.{Answer}
@@ -93,43 +93,46 @@ openString = 0x61 ∷ 0x62 ∷ 0x20 ∷ 0x1B ∷ 0x5D ∷ 0x63 ∷ 0x64 ∷ 0x20
 
 -- ---- the table
 
-abbrev pub given : List (List ℕ)
-given =
-    measured cafePlain
-    ∷ measured cafeRouge
-    ∷ measured niHao
-    ∷ measured cafeAccent
-    ∷ measured openString
-    ∷ wordWidths openString
-    ∷ broken hello 3
-    ∷ fillLine openString
-    ∷ filled 7 fooBarBaz
-    ∷ filled 3 fooBar
-    ∷ filled 3 spacesFoo
-    ∷ filled 0 []
-    ∷ checked 3 abc abcOne
-    ∷ checked 3 abc abcTwo
-    ∷ checked 3 abc abc
-    ∷ []
+-- A row: what the definitions give, and what the document says.
+pub record Row : Type 0 where
+  pub given : List ℕ
+  pub wanted : List ℕ
 
--- measuring: 0 is success, with place 0; the count is the columns. `ab ` ESC `]cd ef` measures 3, but its words 2, 0, 2. `Hello!  ` broken at 3: `Hel`, `lo!` with two spaces.
--- `ab ` ESC `]cd ef` as a fill line is 6 wide. Filling: 0, place 0, the count, and the bytes changed: 7 of `foo bar baz` at 7, 4 of `foo  bar` at 3, 1 of `  foo` at 3, none of the empty text
--- Check of `a b c` at 3: `a`⏎`b c` accepted, `a`⏎`b`⏎`c` 12, unchanged 11
-abbrev pub wanted : List (List ℕ)
-wanted =
-    (0 ∷ 0 ∷ 10 ∷ [])
-    ∷ (0 ∷ 0 ∷ 10 ∷ [])
-    ∷ (0 ∷ 0 ∷ 4 ∷ [])
-    ∷ (0 ∷ 0 ∷ 11 ∷ [])
-    ∷ (0 ∷ 0 ∷ 3 ∷ [])
-    ∷ (2 ∷ 0 ∷ 2 ∷ [])
-    ∷ (0 ∷ 3 ∷ 0 ∷ 3 ∷ 3 ∷ 6 ∷ 2 ∷ 3 ∷ [])
-    ∷ (6 ∷ [])
-    ∷ (0 ∷ 0 ∷ 1 ∷ 7 ∷ [])
-    ∷ (0 ∷ 0 ∷ 1 ∷ 4 ∷ [])
-    ∷ (0 ∷ 0 ∷ 1 ∷ 1 ∷ [])
-    ∷ (0 ∷ 0 ∷ 0 ∷ [])
-    ∷ (0 ∷ 0 ∷ 0 ∷ [])
-    ∷ (12 ∷ 0 ∷ 0 ∷ [])
-    ∷ (11 ∷ 0 ∷ 0 ∷ [])
+infix 3 _gives_
+abbrev pub _gives_ : List ℕ → List ℕ → Row
+a gives b = record { given = a; wanted = b }
+
+-- A measure is 0, success, with place 0 and the columns as its count. A fill is 0, place 0, the bytes changed as its count, and then each of their places. A check is its number, its place and 0.
+abbrev pub table : List Row
+table =
+    -- `Café Plain` 10
+    (measured cafePlain gives 0 ∷ 0 ∷ 10 ∷ [])
+    -- ESC `[31mCafé Rouge` ESC `[0m` 10
+    ∷ (measured cafeRouge gives 0 ∷ 0 ∷ 10 ∷ [])
+    -- U+4F60 U+597D 4
+    ∷ (measured niHao gives 0 ∷ 0 ∷ 4 ∷ [])
+    -- `Cafe` U+0301 ` Plain` 11
+    ∷ (measured cafeAccent gives 0 ∷ 0 ∷ 11 ∷ [])
+    -- `ab ` ESC `]cd ef` measures 3,
+    ∷ (measured openString gives 0 ∷ 0 ∷ 3 ∷ [])
+    -- but its words measure 2, 0, 2,
+    ∷ (wordWidths openString gives 2 ∷ 0 ∷ 2 ∷ [])
+    -- so as a fill line it is 6 wide
+    ∷ (fillLine openString gives 6 ∷ [])
+    -- `Hello!  ` broken at 3: `Hel`, `lo!` with two spaces
+    ∷ (broken hello 3 gives 0 ∷ 3 ∷ 0 ∷ 3 ∷ 3 ∷ 6 ∷ 2 ∷ 3 ∷ [])
+    -- `foo bar baz` at 7 changes byte 7
+    ∷ (filled 7 fooBarBaz gives 0 ∷ 0 ∷ 1 ∷ 7 ∷ [])
+    -- `foo  bar` at 3 changes byte 4
+    ∷ (filled 3 fooBar gives 0 ∷ 0 ∷ 1 ∷ 4 ∷ [])
+    -- `  foo` at 3 changes byte 1
+    ∷ (filled 3 spacesFoo gives 0 ∷ 0 ∷ 1 ∷ 1 ∷ [])
+    -- empty text, none
+    ∷ (filled 0 [] gives 0 ∷ 0 ∷ 0 ∷ [])
+    -- `a b c` at 3: `a`⏎`b c` accepted,
+    ∷ (checked 3 abc abcOne gives 0 ∷ 0 ∷ 0 ∷ [])
+    -- `a`⏎`b`⏎`c` 12,
+    ∷ (checked 3 abc abcTwo gives 12 ∷ 0 ∷ 0 ∷ [])
+    -- unchanged 11
+    ∷ (checked 3 abc abc gives 11 ∷ 0 ∷ 0 ∷ [])
     ∷ []
