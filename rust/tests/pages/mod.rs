@@ -37,7 +37,10 @@ pub enum Side {
 }
 
 /// Room for one slice at a time. It is kept until the process ends.
-pub struct Room(*mut u8);
+pub struct Room {
+    start: *mut u8,
+    allowed: c_int,
+}
 
 impl Room {
     pub fn new() -> Room {
@@ -45,12 +48,15 @@ impl Room {
         // SAFETY: nothing is asked about where, so nothing that is there already is touched.
         let all = unsafe { mmap(null_mut(), INSIDE + 2 * BESIDE, NOTHING, PRIVATE_AND_OF_NO_FILE, -1, 0) };
         assert_ne!(all as isize, -1, "there is no memory");
-        Room(all.cast::<u8>().wrapping_add(BESIDE))
+        Room { start: all.cast::<u8>().wrapping_add(BESIDE), allowed: NOTHING }
     }
 
     fn allow(&mut self, what: c_int) {
-        // SAFETY: these pages are ours, and no slice of them is alive.
-        assert_eq!(unsafe { mprotect(self.0.cast(), INSIDE, what) }, 0);
+        if self.allowed != what {
+            // SAFETY: these pages are ours, and no slice of them is alive.
+            assert_eq!(unsafe { mprotect(self.start.cast(), INSIDE, what) }, 0);
+            self.allowed = what;
+        }
     }
 
     /// A copy that may be read and written.
@@ -58,8 +64,8 @@ impl Room {
         let free = INSIDE.checked_sub(bytes.len()).expect("the slice is longer than the room");
         self.allow(WRITING);
         let start = match side {
-            Side::End => self.0.wrapping_add(free),
-            Side::Start => self.0,
+            Side::End => self.start.wrapping_add(free),
+            Side::Start => self.start,
         };
         // SAFETY: these bytes are ours, may be written, and are lent for as long as the room is.
         let slice = unsafe { from_raw_parts_mut(start, bytes.len()) };
