@@ -8,7 +8,7 @@ mod program;
 
 use std::str::from_utf8;
 
-use generate::{cases, damage, seed, text, words, Rng};
+use generate::{cases, damage, say_cases, seed, text, words, Rng};
 use program::{root, written_on};
 
 // ---- what it must write, said by others
@@ -144,7 +144,9 @@ fn long_texts() {
 /// Random jobs, some refused, and then the end, a wrong mark or a cut.
 #[test]
 fn random_inputs() {
-    for case in 0..cases() / 2_000 {
+    let inputs = cases() / 2_000;
+    say_cases(inputs);
+    for case in 0..inputs {
         let mut rng = Rng::of_case(seed(), case);
         let mut input = Vec::new();
         for _ in 0..rng.pick(&[0, 1, 2, 10, 40]) {

@@ -10,7 +10,7 @@ mod program;
 use std::fmt::Write as _;
 use std::str::from_utf8;
 
-use generate::{cases, damage, every_string, seed, text, words, Rng};
+use generate::{cases, damage, every_string, say_cases, seed, text, words, Rng};
 use program::{root, written_on};
 use textwrap::core::Word;
 use textwrap::WordSeparator::AsciiSpace;
@@ -138,6 +138,7 @@ fn hold(texts: &[&[u8]], width: usize, places: usize) {
 fn hold_random(cases: u64, make: impl Fn(&mut Rng) -> Vec<u8>) {
     let mut rng = Rng::of_case(seed(), 0);
     let mut batch = Batch::new(0, 0);
+    say_cases(cases);
     for case in 0..cases {
         if case % 100 == 0 {
             if !batch.texts.is_empty() {

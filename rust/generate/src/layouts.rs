@@ -29,6 +29,15 @@ pub struct Layout {
     pub penalties: [u32; 5],
 }
 
+impl Layout {
+    /// The lists of words, whitespaces, penalty widths and line widths, as bytes, each number's high one first.
+    pub fn lists(&self) -> [Vec<u8>; 4] {
+        let part = |part: usize| self.fragments.iter().flat_map(|fragment| fragment[part].to_be_bytes()).collect();
+        let line_widths = self.line_widths.iter().flat_map(|width| width.to_be_bytes()).collect();
+        [part(0), part(1), part(2), line_widths]
+    }
+}
+
 impl Item for Fragment {
     fn simpler(&self) -> Vec<Fragment> {
         let mut simpler = vec![[0, 0, 0]];

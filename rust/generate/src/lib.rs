@@ -25,5 +25,5 @@ mod runner;
 
 pub use exhaustive::every_string;
 pub use rng::Rng;
-pub use runner::{cases, run, seed, MORE_CASES};
+pub use runner::{cases, run, say_cases, seed, MORE_CASES};
 pub use shrink::Shrink;

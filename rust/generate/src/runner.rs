@@ -30,7 +30,12 @@ fn from_environment(name: &str, usual: u64) -> u64 {
     }
 }
 
-/// Makes the cases of these numbers and checks each. Where a check fails, this panics with the seed,
+/// Says how many cases were run. `cargo test` shows it with `-- --show-output`; `tools/try-many` adds it up.
+pub fn say_cases(count: u64) {
+    println!("cases: {count}");
+}
+
+/// Makes the cases of these numbers and checks each, and says how many there were. Where a check fails, this panics with the seed,
 /// the number of the case, and the smallest case found that fails too, with what was wrong about it.
 pub fn run<T: Shrink + Debug>(
     numbers: Range<u64>,
@@ -38,6 +43,7 @@ pub fn run<T: Shrink + Debug>(
     check: impl Fn(&T) -> Result<(), String>,
 ) {
     let seed = seed();
+    say_cases(numbers.end.saturating_sub(numbers.start));
     for number in numbers {
         let case = make(&mut Rng::of_case(seed, number));
         if let Err(first) = check(&case) {

@@ -49,11 +49,9 @@ pub struct Given {
 impl Given {
     /// A layout with lists that are exactly full.
     pub fn new(layout: &Layout) -> Given {
-        let part = |part: usize| layout.fragments.iter().flat_map(|fragment| fragment[part].to_be_bytes()).collect();
-        let line_widths = layout.line_widths.iter().flat_map(|width| width.to_be_bytes()).collect();
         let count = layout.fragments.len();
         Given {
-            lists: [part(0), part(1), part(2), line_widths],
+            lists: layout.lists(),
             penalties: layout.penalties,
             lens: [PLACES[0] * count.max(1), PLACES[1] * (count + 1), PLACES[2] * (count + 1)],
         }

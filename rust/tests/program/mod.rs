@@ -1,4 +1,4 @@
-//! The programs that `rt check` makes, run on an input.
+//! Programs for x86-64, run: those that `rt check` makes, on an input.
 
 use std::env;
 use std::io::Write as _;
@@ -8,24 +8,29 @@ use std::thread;
 use std::time::Duration;
 
 /// The root of the repository.
+#[allow(dead_code)]
 pub fn root() -> PathBuf {
     Path::new(env!("CARGO_MANIFEST_DIR")).join("..")
 }
 
-/// What a program writes on an input that comes in parts, with a pause after each but the last.
-/// `KENUPATUN_RUN` names an emulator, where one is needed.
+/// A program for x86-64, to be run. `KENUPATUN_RUN` names an emulator, where one is needed.
+pub fn command(program: &Path) -> Command {
+    match env::var("KENUPATUN_RUN") {
+        Ok(run) if !run.is_empty() => {
+            let mut command = Command::new(run);
+            command.arg(program);
+            command
+        }
+        _ => Command::new(program),
+    }
+}
+
+/// What a program that `rt check` makes writes on an input that comes in parts, with a pause after each but the last.
+#[allow(dead_code)]
 pub fn written_on(name: &str, words: &[String], parts: Vec<Vec<u8>>) -> Vec<u8> {
     let program = root().join("target/bin").join(name);
     assert!(program.is_file(), "there is no {}: run `rt check {name}` first", program.display());
-    let mut command = match env::var("KENUPATUN_RUN") {
-        Ok(run) if !run.is_empty() => {
-            let mut command = Command::new(run);
-            command.arg(&program);
-            command
-        }
-        _ => Command::new(&program),
-    };
-    let mut child = command.args(words).stdin(Stdio::piped()).stdout(Stdio::piped()).spawn().unwrap();
+    let mut child = command(&program).args(words).stdin(Stdio::piped()).stdout(Stdio::piped()).spawn().unwrap();
     let mut stdin = child.stdin.take().unwrap();
     // the program may stop before the end of its input: then a write fails, and that is no fault
     let writer = thread::spawn(move || {
