@@ -18,10 +18,13 @@
 static int failures = 0;
 static unsigned long calls = 0;
 
-/* Holds the number of an answer, and counts the call. A number that is undefined is reported by valgrind. */
+/* Holds the number of an answer, and that all of it is defined, and counts the call. */
 static void expect(const char *what, kenupatun_answer got, uint32_t number)
 {
     calls++;
+    if (VALGRIND_CHECK_VALUE_IS_DEFINED(got.number) != 0 || VALGRIND_CHECK_VALUE_IS_DEFINED(got.place) != 0 ||
+        VALGRIND_CHECK_VALUE_IS_DEFINED(got.count) != 0)
+        failures++;
     if (got.number == number && (number == 0 ? got.place == 0 : got.count == 0))
         return;
     failures++;
@@ -234,7 +237,8 @@ static void on_text(uint8_t *text, size_t len, uint32_t width)
     answer.place = word.place;
     answer.count = word.count;
     expect("word_from", answer, measured.number);
-    if (word.start + word.end + word.white + word.width > 4 * (uint64_t)len)
+    if (VALGRIND_CHECK_VALUE_IS_DEFINED(word.start) != 0 || VALGRIND_CHECK_VALUE_IS_DEFINED(word.end) != 0 ||
+        VALGRIND_CHECK_VALUE_IS_DEFINED(word.white) != 0 || VALGRIND_CHECK_VALUE_IS_DEFINED(word.width) != 0)
         failures++;
     lists_around(0, text, len, width, measured.number);
     lists_around(1, text, len, width, refused);
