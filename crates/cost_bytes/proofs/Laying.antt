@@ -16,12 +16,12 @@ use Rattle.wire.specs.Wire.{be16, be64, places16, places64}
 use Rattle.fragments.specs.Lists.{firstAbove, testedOf}
 use Rattle.fragments.specs.declared.Laid.{Laid}
 use Rattle.fragments.specs.declared.Laid.the-variants.{Lines, TooDear}
-use Rattle.fragments.specs.declared.Tested.the-variants as tested
+use Rattle.fragments.proofs.Laws.{tested-good}
 use Rattle.cheapest.specs.Table.{at}
 use Rattle.least_cost.specs.declared.Penalties.{Penalties}
 use Rattle.least_cost.specs.declared.Admission.the-variants.{Open}
 use Rattle.least_cost.specs.Layout.{firstBig, admissionOf, laidFrom, endsAfter, scratchAfter, costsOf, startsOf, endsOfLines, laidOf, Laying}
-use Rattle.least_cost.proofs.Laying.{Opened, open-says, good-says}
+use Rattle.least_cost.proofs.Laying.{Opened, open-says}
 use Rattle.least_cost.proofs.Laws.{costs-places, starts-places, ends-few}
 use Rattle.cost_bytes.specs.Bytes.{LaidBytes, admitted, Begun, linesIn}
 use Rattle.cost_bytes.proofs.Stores.{take-stored, zero-bytes16, zero-bytes64}
@@ -40,7 +40,7 @@ module _ {w s p ws : List ℕ} {P : Penalties} {E C S : List ℕ} (g : Begun w s
   opened = open-says _ _ _ _ _ _ (sym (g .begun))
 
   pub begun-few : length w ≤ 4096
-  begun-few = good-says (length w) (length s) (length p) (firstAbove widthMost ws) (length ws) (sym (opened .good)) .2
+  begun-few = tested-good (length w) (length s) (length p) (firstAbove widthMost ws) (length ws) refl (opened .good) .0 .few
 
   -- lists of the most places have room
   open-here : admitted w s p ws P 4096 4097 4097 ≡ Open

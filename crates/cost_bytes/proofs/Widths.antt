@@ -8,16 +8,15 @@ use native.Mathlib.Omega.{arith}
 use lib.Dec.{leb, ltb}
 use lib.ListN.{length, getD, take}
 use lib.Seq.{sets, take-length, length-take-le, getD-take}
-use borrow.Author.Tests.{eq-eqb, le-ltb, ltb-true, ltb-false}
-use Rattle.units.specs.Limits.{widthMost, fragmentsMost}
+use borrow.Author.Tests.{ltb-true, ltb-false}
+use Rattle.units.specs.Limits.{widthMost}
 use Rattle.logic.specs.Choice.{pick}
 use Rattle.logic.specs.Count.{count}
 use Rattle.logic.proofs.Choice.{both}
 use Rattle.fragments.specs.declared.Laid.{Laid}
 use Rattle.fragments.specs.declared.Tested.{Tested}
-use Rattle.fragments.specs.declared.Tested.the-variants.{Good}
 use Rattle.fragments.specs.Lists.{widthOf, firstAbove, testedOf}
-use Rattle.fragments.proofs.Laws.{Sound, tested-good, width-in}
+use Rattle.fragments.proofs.Laws.{Sound, tested-good, good-tested, width-in}
 use Rattle.cheapest.specs.Least.{firstLeast}
 use Rattle.cheapest.specs.Lines.{lineOf}
 use Rattle.cheapest.specs.Table.{at, via, choice, grown, tableOf, bestCosts, chosenStarts}
@@ -92,10 +91,6 @@ all-taken p (b ∷ l) (suc m) h =
     (λ e. let k : suc (length l) ≤ suc (count p l) = rw e at h in rw e (omega (arith, all-taken p l m (omega arith))))
     (λ e. let k : suc (length l) ≤ 0 = rw e at h in absurd (omega arith))
 
-good-again : (n a b wide widths : ℕ) → Sound n a b → widths ≤ wide → testedOf n a b wide widths ≡ Good
-unfolding testedOf
-good-again n a b wide widths k l = rw (eq-eqb a n (k .whites-same), eq-eqb b n (k .penalties-same), le-ltb fragmentsMost n (k .few), le-ltb wide widths l)
-
 module _ {w s p ws : List ℕ} {P : Penalties} {E C S : List ℕ} (g : Begun w s p ws P E C S) where
   narrow : Sound (length w) (length s) (length p) × (length ws ≤ firstAbove widthMost ws)
   unfolding admitted
@@ -111,8 +106,8 @@ module _ {w s p ws : List ℕ} {P : Penalties} {E C S : List ℕ} {m : ℕ} (g :
   cut-tested : testedOf (length w) (length s) (length p) (firstAbove widthMost (take m ws)) (length (take m ws)) ≡ testedOf (length w) (length s) (length p) (firstAbove widthMost ws) (length ws)
   unfolding firstAbove
   cut-tested =
-      good-again (length w) (length s) (length p) (firstAbove widthMost (take m ws)) (length (take m ws)) (narrow g .0) (all-taken (λ x. leb x widthMost) ws m (narrow g .1))
-      ∙ sym (good-again (length w) (length s) (length p) (firstAbove widthMost ws) (length ws) (narrow g .0) (narrow g .1))
+      good-tested (length w) (length s) (length p) (firstAbove widthMost (take m ws)) (length (take m ws)) (narrow g .0) (all-taken (λ x. leb x widthMost) ws m (narrow g .1))
+      ∙ sym (good-tested (length w) (length s) (length p) (firstAbove widthMost ws) (length ws) (narrow g .0) (narrow g .1))
 
   pub begun-cut : Begun w s p (take m ws) P E C S
   unfolding admitted

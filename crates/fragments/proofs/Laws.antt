@@ -9,7 +9,7 @@ use native.Mathlib.Omega.{arith}
 use lib.Dec.{leb, ltb, eqb}
 use lib.ListN.{length, getD, drop, drop-of-length-le, List·getD-eq-default}
 use lib.Seq.{drop-cons, getD-drop}
-use borrow.Author.Tests.{le-leb, lt-leb, eqb-true, ltb-false}
+use borrow.Author.Tests.{le-leb, lt-leb, le-ltb, eq-eqb, eqb-true, ltb-false}
 use Rattle.units.specs.declared.Answer.{Answer}
 use Rattle.units.specs.Limits.{fragmentsMost}
 use Rattle.logic.specs.Count.{count}
@@ -95,3 +95,9 @@ tested-good words whites penalties wide widths e g =
     (λ d. (record { whites-same = eqb-true whites words a; penalties-same = eqb-true penalties words b; few = ltb-false fragmentsMost words c }, ltb-false wide widths d))))
     (λ b. absurd (let q = rw (a, b) at e in let z : _≡_ {A = ℕ} 0 1 = cc in omega arith)))
     (λ a. absurd (let q = rw a at e in let z : _≡_ {A = ℕ} 0 1 = cc in omega arith))
+
+-- And such lists are found good.
+pub good-tested : (words whites penalties wide widths : ℕ) → Sound words whites penalties → widths ≤ wide → testedOf words whites penalties wide widths ≡ Good
+unfolding testedOf
+good-tested words whites penalties wide widths k l =
+    rw (eq-eqb whites words (k .whites-same), eq-eqb penalties words (k .penalties-same), le-ltb fragmentsMost words (k .few), le-ltb wide widths l)

@@ -9,9 +9,11 @@ use borrow.Author.Tests.{lt-ltb, le-ltb, eq-eqb, ne-eqb, leb-true, leb-false}
 use Rattle.units.specs.Limits.{fragmentsMost, widthMost}
 use Rattle.units.specs.Answers.{success, refusal}
 use Rattle.logic.proofs.Count.{count-passes, count-stops}
+use Rattle.fragments.specs.declared.Tested.the-variants.{Good}
 use Rattle.fragments.specs.Fragments.{Fragment, fragments}
 use Rattle.fragments.specs.Lists.{firstAbove, testedOf}
 use Rattle.fragments.specs.Answers as laid
+use Rattle.fragments.proofs.Laws.{good-tested}
 use Rattle.first_fit.specs.FirstFit.{lineEnds}
 use Rattle.first_fit.specs.Entry.{firstFitOf}
 use Rattle.first_fit.specs.Groupings.{Grouping, fit, lines, lineCount}
@@ -49,15 +51,16 @@ module _ (words whites penalties widths : List ℕ) (room : ℕ) where
           rw (eq-eqb (length whites) (length words) e, eq-eqb (length penalties) (length words) f, le-ltb fragmentsMost (length words) l, lt-ltb (firstAbove widthMost widths) (length widths) h)
 
       module _ (h : length widths ≤ firstAbove widthMost widths) where
+        good : testedOf (length words) (length whites) (length penalties) (firstAbove widthMost widths) (length widths) ≡ Good
+        good = good-tested (length words) (length whites) (length penalties) (firstAbove widthMost widths) (length widths) (record { whites-same = e; penalties-same = f; few = l }) h
+
         pub first-fit-no-room : room < max 1 (length words) → laid.answerOf (firstFitOf words whites penalties widths room) ≡ refusal 7 (max 1 (length words))
-        unfolding firstFitOf testedOf laid.answerOf
-        first-fit-no-room m =
-            rw (eq-eqb (length whites) (length words) e, eq-eqb (length penalties) (length words) f, le-ltb fragmentsMost (length words) l, le-ltb (firstAbove widthMost widths) (length widths) h, lt-ltb room (max 1 (length words)) m)
+        unfolding firstFitOf laid.answerOf
+        first-fit-no-room m = rw (good, lt-ltb room (max 1 (length words)) m)
 
         pub first-fit-laid : max 1 (length words) ≤ room → laid.answerOf (firstFitOf words whites penalties widths room) ≡ success (length (lineEnds widths (fragments words whites penalties)))
-        unfolding firstFitOf testedOf laid.answerOf
-        first-fit-laid m =
-            rw (eq-eqb (length whites) (length words) e, eq-eqb (length penalties) (length words) f, le-ltb fragmentsMost (length words) l, le-ltb (firstAbove widthMost widths) (length widths) h, le-ltb room (max 1 (length words)) m)
+        unfolding firstFitOf laid.answerOf
+        first-fit-laid m = rw (good, le-ltb room (max 1 (length words)) m)
 
 -- No grouping of the words in order, into lines of one word or of fitting width, has fewer lines than first fit.
 pub fewest-lines : (w : ℕ) (words whites penalties : List ℕ) → ((k : ℕ) → getD penalties k 0 ≡ 0) → (others : List (List Fragment)) → Grouping w (fragments words whites penalties) others

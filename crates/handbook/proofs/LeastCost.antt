@@ -11,6 +11,7 @@ use Rattle.fragments.specs.declared.Laid.the-variants.{TooDear}
 use Rattle.fragments.specs.declared.Tested.the-variants.{Good}
 use Rattle.fragments.specs.Lists.{firstAbove, testedOf}
 use Rattle.fragments.specs.Answers.{answerOf}
+use Rattle.fragments.proofs.Laws.{good-tested}
 use Rattle.cheapest.specs.Lines.{Rises, costOf}
 use Rattle.cheapest.specs.Table.{at, Table}
 use Rattle.cheapest.proofs.Table.{table-unique}
@@ -72,8 +73,7 @@ module _ (w s p ws : List ℕ) (P : Penalties) where
 
         module _ (h : length ws ≤ firstAbove widthMost ws) where
           good : testedOf (length w) (length s) (length p) (firstAbove widthMost ws) (length ws) ≡ Good
-          unfolding testedOf
-          good = rw (eq-eqb (length s) (length w) e, eq-eqb (length p) (length w) f, le-ltb fragmentsMost (length w) l, le-ltb (firstAbove widthMost ws) (length ws) h)
+          good = good-tested (length w) (length s) (length p) (firstAbove widthMost ws) (length ws) (record { whites-same = e; penalties-same = f; few = l }) h
 
           -- "a penalty exceeds 1,000,000 | first such, 0 to 4": `firstBig P` is the index of the first, and 5 where there is none.
           pub least-cost-big-penalty : firstBig P < 5 → answerOf (laidOf w s p ws P ends costs starts) ≡ refusal 6 (firstBig P)

@@ -1,6 +1,6 @@
 -- What callers and the handbook use: how long the lists are, that the written ends are a layout of the cost that stands in the scratch, that with one line width no layout costs less, and that refusal 8
 -- never comes.
-use mathlib.Core.Path.{_≡_, refl, sym, ap, _∙_}
+use mathlib.Core.Path.{_≡_, refl, ap, _∙_}
 use mathlib.Core.List.{List, [], _∷_}
 use Prim.Native.Nat.{ℕ, zero, suc, _+_, _^_, _≤_, _<_, max}
 use native.Mathlib.Omega.{arith}
@@ -14,6 +14,7 @@ use Rattle.fragments.specs.Lists.{firstAbove, testedOf}
 use Rattle.fragments.specs.declared.Tested.{Tested}
 use Rattle.fragments.specs.declared.Laid.{Laid}
 use Rattle.fragments.specs.declared.Laid.the-variants.{Lines, TooDear}
+use Rattle.fragments.proofs.Laws.{Sound, tested-good}
 use Rattle.cheapest.specs.Lines.{Rises, costOf, endsOf}
 use Rattle.cheapest.specs.Table.{at, Table}
 use Rattle.cheapest.proofs.Lines.{ends-length, line-le}
@@ -27,7 +28,7 @@ use Rattle.least_cost.specs.Layout.{firstBig, admissionOf, linesOf, laid
 use Rattle.least_cost.specs.Search.{Small}
 use Rattle.least_cost.proofs.Bounds.{Short, cost-cap}
 use Rattle.least_cost.proofs.Filling.{one-target}
-use Rattle.least_cost.proofs.Laying.{never, Opened, open-says, good-says, small-says, shut-keeps}
+use Rattle.least_cost.proofs.Laying.{never, Opened, open-says, small-says, shut-keeps}
 
 module _ (w s p ws : List ℕ) (P : Penalties) where
   pub costs-places : length (costsOf w s p ws P) ≡ length w + 1
@@ -98,9 +99,9 @@ module _ (w s p ws : List ℕ) (P : Penalties) where
           never (cc)
       go Open e h = (open-says tests (firstBig P) (length w) ends costs starts e, h)
 
-  alike : {big ends costs starts : ℕ} → Opened tests big (length w) ends costs starts → (length s ≡ length w) × (length p ≡ length w) × (length w ≤ fragmentsMost)
+  alike : {big ends costs starts : ℕ} → Opened tests big (length w) ends costs starts → Sound (length w) (length s) (length p)
   unfolding tests
-  alike o = good-says (length w) (length s) (length p) (firstAbove widthMost ws) (length ws) (sym (o .good))
+  alike o = tested-good (length w) (length s) (length p) (firstAbove widthMost ws) (length ws) refl (o .good) .0
 
   -- What an answer of k lines says: that is how many ends there are, and every list has the places that are written.
   pub record Fitting (k ends costs starts : ℕ) : Type 0 where
@@ -122,9 +123,9 @@ module _ (w s p ws : List ℕ) (P : Penalties) where
       let z : Lines (length (endsOfLines w s p ws P)) ≡ Lines k = rw t at (b .1) in
       record {
         count = cc;
-        whites = g .0;
-        penalties = g .1;
-        few = g .2;
+        whites = g .whites-same;
+        penalties = g .penalties-same;
+        few = g .few;
         room = omega (arith, ends-few, b .0 .room);
         places = omega (arith, b .0 .scratch);
         others = omega (arith, b .0 .scratch);
@@ -139,6 +140,6 @@ module _ (w s p ws : List ℕ) (P : Penalties) where
     pub never-dear : (ends costs starts : ℕ) → laidOf w s p ws P ends costs starts ≡ TooDear → ⊥
     never-dear ends costs starts h =
         let b = begun ends costs starts TooDear refl h in
-        let l : at (costsOf w s p ws P) (length w) ≤ costMost = omega (arith, least-cap (alike (b .0) .2) (small-says P (b .0 .cheap))) in
+        let l : at (costsOf w s p ws P) (length w) ≤ costMost = omega (arith, least-cap (alike (b .0) .few) (small-says P (b .0 .cheap))) in
         let z : Lines (length (endsOfLines w s p ws P)) ≡ TooDear = rw (le-ltb costMost (at (costsOf w s p ws P) (length w)) l) at (b .1) in
         never (cc)

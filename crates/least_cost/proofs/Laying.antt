@@ -4,10 +4,10 @@ use mathlib.Core.Bool.{Bool, true, false}
 use mathlib.Core.List.{List}
 use Prim.Native.Nat.{ℕ, zero, suc, _+_, _≤_, _<_, min, max}
 use native.Mathlib.Omega.{arith}
-use lib.Dec.{ltb, leb, eqb}
+use lib.Dec.{ltb, leb}
 use lib.ListN.{length, getD, replicate, length-replicate}
 use lib.Seq.{sets, length-sets}
-use borrow.Author.Tests.{lt-ltb, le-ltb, ltb-false, eqb-true, leb-true}
+use borrow.Author.Tests.{lt-ltb, le-ltb, ltb-false, leb-true}
 use Rattle.units.specs.Limits.{widthMost, costMost}
 use Rattle.logic.specs.Choice.{pick}
 use Rattle.logic.proofs.Choice.{both}
@@ -17,6 +17,7 @@ use Rattle.fragments.specs.declared.Tested.{Tested}
 use Rattle.fragments.specs.declared.Tested.the-variants as tested
 use Rattle.fragments.specs.declared.Laid.{Laid}
 use Rattle.fragments.specs.declared.Laid.the-variants.{Lines, Unequal, TooMany, TooWide, BigPenalty, NoRoom, TooDear}
+use Rattle.fragments.proofs.Laws.{tested-good}
 use Rattle.cheapest.specs.Lines.{Falls}
 use Rattle.cheapest.specs.Table.{at, bestCosts, chosenStarts}
 use Rattle.cheapest.proofs.Lines.{ends-same}
@@ -55,19 +56,6 @@ open-says tested.Good big n ends costs starts e =
     both (ltb (min costs starts) (n + 1))
     (λ d. let e₃ : Open ≡ Shut (NoRoom (n + 1)) = e ∙ rw (a, b, d) in never (cc))
     (λ d. record { good = refl; cheap = ltb-false big 5 a; room = ltb-false ends (max 1 n) b; scratch = ltb-false (min costs starts) (n + 1) d })))
-
-pub good-says : (n ns np wide nw : ℕ) → tested.Good ≡ testedOf n ns np wide nw → (ns ≡ n) × (np ≡ n) × (n ≤ 4096)
-unfolding testedOf
-good-says n ns np wide nw e =
-    both (eqb ns n)
-    (λ a.
-    both (eqb np n)
-    (λ b.
-    both (ltb 4096 n)
-    (λ d. let e₁ : tested.Good ≡ tested.TooMany = e ∙ rw (a, b, d) in never (cc))
-    (λ d. (eqb-true ns n a, eqb-true np n b, ltb-false 4096 n d)))
-    (λ b. let e₂ : tested.Good ≡ tested.Unequal = e ∙ rw (a, b) in never (cc)))
-    (λ a. let e₃ : tested.Good ≡ tested.Unequal = e ∙ rw a in never (cc))
 
 pub small-says : (P : Penalties) → 5 ≤ firstBig P → Small P
 unfolding firstBig firstAbove
@@ -141,8 +129,8 @@ module _ {w s p ws : List ℕ} {P : Penalties} {E C S : List ℕ} {a : Admission
 
     even : Even w s p
     even =
-        let g = good-says (length w) (length s) (length p) (firstAbove widthMost ws) (length ws) (sym (opened .good)) in
-        record { whites = g .0; penalties = g .1; few = g .2 }
+        let g = tested-good (length w) (length s) (length p) (firstAbove widthMost ws) (length ws) refl (opened .good) .0 in
+        record { whites = g .whites-same; penalties = g .penalties-same; few = g .few }
 
     pub laying-search : Searchable w s p P C S
     laying-search = record {
