@@ -5,14 +5,15 @@ use mathlib.Core.List.{List, _++_}
 use Prim.Native.Nat.{ℕ, zero, suc, _≤_, _<_}
 use native.Mathlib.Omega.{arith}
 use lib.ListN.{length, getD, List·getD-eq-default}
-use borrow.Author.Tests.{not-true, not-false}
+use borrow.Author.Tests.{not-true, not-false, eq-eqb, ne-eqb}
 use Rattle.saying.specs.Saying.{Said, decimalOf}
 use Rattle.saying.specs.Ascii.{ascii}
 use Rattle.saying.proofs.Laws.{said-none, said-then}
+use Rattle.parting.specs.Parting.{partsAt}
 use Rattle.refusals.specs.declared.Spot.{Spot}
 use Rattle.refusals.specs.Places.{spotOf}
 use Rattle.refusals.specs.Sentences.{unknown, sentences, sentence}
-use Rattle.refusals.specs.Lines.{hasPlace, inAfter, shownPlace, placeWords, placePart}
+use Rattle.refusals.specs.Lines.{hasPlace, inAfter, shownPlace, placeWords, placePart, partingPart}
 
 -- ---- the sentence
 
@@ -69,3 +70,14 @@ module _ {h : Bool} {o : List ℕ} {at : ℕ} (number place : ℕ) (before after
     place-before w s = rw (sym e ∙ not-false h d, sym g ∙ w, ← f) s
 
 pub ruleset placing = (no-place, place-after, place-before)
+
+-- ---- where the texts part
+
+module _ {o : List ℕ} {at : ℕ} (number : ℕ) (before after : List ℕ) where
+  pub no-parting : (number ≡ 9 → ⊥) → at ≤ length o → Said o at (partingPart number before after) at o
+  unfolding partingPart
+  no-parting d l = rw (ne-eqb number 9 d) (said-none o at l)
+
+  pub parting-said : {place i r : ℕ} {p q : List ℕ} → number ≡ 9 → place ≡ partsAt before after → Said o at (ascii "; they part") i p → Said p i (placeWords place after) r q → Said o at (partingPart number before after) r q
+  unfolding partingPart
+  parting-said e f a b = rw (eq-eqb number 9 e, ← f) (said-then a b)

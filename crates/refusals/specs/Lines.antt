@@ -9,6 +9,7 @@ use Rattle.units.specs.Limits.{textMost}
 use Rattle.logic.specs.Choice.{pick}
 use Rattle.saying.specs.Saying.{decimalOf}
 use Rattle.saying.specs.Ascii.{ascii}
+use Rattle.parting.specs.Parting.{partsAt}
 use Rattle.refusals.specs.Places.{lineOf, columnOf}
 use Rattle.refusals.specs.Sentences.{sentence}
 
@@ -41,6 +42,14 @@ placePart number place before after =
     (placeWords (shownPlace number place) (pick (inAfter number before) after before))
     []
 
+-- With 9 the line ends with where the texts part, as the text after has it: there a person looks for what is missing.
+unfoldable pub partingPart : ℕ → List ℕ → List ℕ → List ℕ
+partingPart number before after = pick (eqb number 9) (ascii "; they part" ++ placeWords (partsAt before after) after) []
+
+-- no more bytes than these
+abbrev pub partingMost : ℕ
+partingMost = 97
+
 -- `refused N at byte P (line L, column C): SENTENCE`, or without a place `refused N: SENTENCE`, and a newline.
 unfoldable pub refusalLine : Answer → ℕ → List ℕ → List ℕ → List ℕ
 refusalLine a width before after =
@@ -48,8 +57,9 @@ refusalLine a width before after =
     ++ (placePart (a .number) (a .place) before after
     ++ (ascii ": "
     ++ (sentence (a .number) width (length before) (length after)
-    ++ ascii "\n")))
+    ++ (partingPart (a .number) before after
+    ++ ascii "\n"))))
 
 -- No line is longer.
 abbrev pub lineMost : ℕ
-lineMost = 256
+lineMost = 384

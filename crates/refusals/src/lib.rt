@@ -7,7 +7,7 @@ ghost use lib.ListN.{length};
 ghost use Rattle.saying.specs.Saying.{Said};
 ghost use Rattle.refusals.specs.Places.{isNewline, startsCharacter, spotOf};
 ghost use Rattle.refusals.specs.Sentences.{sentenceMost, sentence, lengthsDiffer, columnsMost, inColumns};
-ghost use Rattle.refusals.specs.Lines.{lineMost, hasPlace, inAfter, shownPlace, placeWords, spotMost, placePart, refusalLine};
+ghost use Rattle.refusals.specs.Lines.{lineMost, hasPlace, inAfter, shownPlace, placeWords, spotMost, placePart, partingMost, partingPart, refusalLine};
 use saying::say;
 use saying::say_byte;
 use saying::say_named;
@@ -15,14 +15,17 @@ use units::Answer;
 use units::TEXT_MOST;
 
 // The longest line of a refusal: a buffer of so many bytes has room for any.
-pub const LINE_MOST: usize = 256;
+pub const LINE_MOST: usize = 384;
 
 const NEWLINE: u8 = 0x0A;
 
-// The numbers of document 01 whose place is a byte of a text.
+// The numbers of document 01 whose place is a byte of a text; and 9, with which the place is told where
+// the texts part.
 const TOO_LONG: u32 = 1;
 
 const NOT_UTF8: u32 = 2;
+
+const LENGTHS: u32 = 9;
 
 const BAD_CHANGE: u32 = 10;
 
@@ -213,6 +216,20 @@ fn say_place(
     say_spot(out, at, shown, before)
 }
 
+// Adds where two texts part, if the refusal is that they differ in length.
+fn say_parting(out: &mut [u8], at: usize, number: u32, before: &[u8], after: &[u8]) -> usize
+    requires { ⌜ at + partingMost ≤ length (now out) ⌝ }
+    ensures { λ r. ⌜ Said (now (out .entry)) at (partingPart number (now (before .entry)) (now (after .entry))) r (now (out .exit)) ⌝ }
+    ensures { λ r. ⌜ r ≤ at + partingMost ⌝ }
+{
+    if number != LENGTHS {
+        return at;
+    }
+    let place = parting::parts_at(before, after);
+    let named = say(out, at, b"; they part");
+    say_spot(out, named, place as u64, after)
+}
+
 // Puts the whole line of a refusal into a buffer, and answers how long it is. The check's refusals are
 // about a text before and a text after; those of one text alone take it twice.
 pub fn refusal_line(
@@ -231,5 +248,6 @@ pub fn refusal_line(
     let second = say_place(out, first, number, answer.place, before, after);
     let third = say(out, second, b": ");
     let fourth = say_sentence(out, third, number, width, before.len(), after.len());
-    say_byte(out, fourth, NEWLINE)
+    let fifth = say_parting(out, fourth, number, before, after);
+    say_byte(out, fifth, NEWLINE)
 }

@@ -27,6 +27,9 @@ say-requires c κs = search needs
 say-sentence-requires : tie.Need-say-sentence-requires
 say-sentence-requires c κs = search needs
 
+say-parting-requires : tie.Need-say-parting-requires
+say-parting-requires c κs = search needs
+
 say-byte-requires : tie.Need-say-byte-requires
 say-byte-requires c κs = search needs
 
@@ -36,13 +39,22 @@ same-length c = search needs
 returns : tie.Need-returns
 unfolding refusalLine
 returns c =
-    let fifth = c .before .before in
+    let sixth = c .before .before in
+    let fifth = sixth .before .before .before .before in
     let fourth = fifth .before .before .before .before in
     let third = fourth .before .before .before .before in
     let second = third .before .before .before .before .before in
     let first = second .before .before .before .before in (
-      said-then (first .say-named .ensures .0) (said-then (second .say-place .ensures .0) (said-then (third .say .ensures) (said-then (fourth .say-sentence .ensures .0) (fifth .say-byte .ensures)))),
-      omega (arith, first .say-named .ensures .1, second .say-place .ensures .1, third .say .ensures .count, fourth .say-sentence .ensures .1, fifth .say-byte .ensures .count),
+      said-then (first .say-named .ensures .0) (said-then (second .say-place .ensures .0) (said-then (third .say .ensures) (said-then (fourth .say-sentence .ensures .0) (said-then (fifth .say-parting .ensures .0) (sixth .say-byte .ensures))))),
+      omega (
+        arith,
+        first .say-named .ensures .1,
+        second .say-place .ensures .1,
+        third .say .ensures .count,
+        fourth .say-sentence .ensures .1,
+        fifth .say-parting .ensures .1,
+        sixth .say-byte .ensures .count,
+      ),
     )
 
 pub refusal-line-spec : {M : Type 1} → statement M
@@ -56,6 +68,7 @@ refusal-line-spec =
     slice-aggregate-say
     say-requires
     say-sentence-requires
+    say-parting-requires
     say-byte-requires
     same-length
     returns)
