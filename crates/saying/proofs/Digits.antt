@@ -1,13 +1,12 @@
 -- The digits that `io::decimal` writes are `decimalOf`'s, and they are at most twenty.
-use mathlib.Core.Path.{_≡_, refl, sym, ap, _∙_}
+use mathlib.Core.Path.{_≡_, refl}
 use mathlib.Core.List.{List, [], _∷_, _++_}
 use Prim.Native.Nat.{ℕ, zero, suc, _+_, _*_, _-_, _/_, _%_, _^_, _≤_, _<_}
 use native.Mathlib.Nat.{pow-le-pow-right}
 use native.Mathlib.Omega.{arith}
 use lib.Dec.{ltb}
-use lib.ListN.{length, length-append}
 use borrow.Author.Tests.{lt-ltb, le-ltb, ltb-true, ltb-false}
-use Rattle.io.specs.Digits.{digits, Fewest, glyph}
+use Rattle.io.specs.Digits.{digits, Fewest}
 use Rattle.logic.proofs.Choice.{both}
 use Rattle.saying.specs.Saying.{Said, numberMost, digitOf, decimalFor, decimalOf}
 

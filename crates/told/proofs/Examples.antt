@@ -1,7 +1,5 @@
 -- Lines of answers, computed from the definitions.
 use mathlib.Core.Path.{_≡_, refl}
-use mathlib.Core.List.{List, []}
-use Prim.Native.Nat.{ℕ}
 use Rattle.saying.specs.Saying.{decimalFor, decimalOf}
 use Rattle.saying.specs.Ascii.{ascii}
 use Rattle.told.specs.Told.{measuredLine, wordsLine, wordNumbers}

@@ -10,7 +10,6 @@ use Rattle.saying.specs.Saying.{Said}
 use Rattle.words.specs.declared.Word.{Word}
 use Rattle.words.specs.declared.Step.{Step}
 use Rattle.words.specs.declared.Step.the-variants.{Found, End, Fault}
-use Rattle.told.specs.declared.Told.{Told}
 use Rattle.told.specs.declared.Told.the-variants.{Line, NoMore}
 use Rattle.told.specs.Told.{wordNumbers, numbersOf, toldOf}
 

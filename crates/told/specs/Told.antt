@@ -1,6 +1,6 @@
 -- The lines of answers.
 use Prim.Native.Nat.{ℕ}
-use mathlib.Core.List.{List, [], _∷_, _++_}
+use mathlib.Core.List.{List, [], _++_}
 use lib.ListN.{length}
 use Rattle.saying.specs.Saying.{decimalOf}
 use Rattle.saying.specs.Ascii.{ascii}
