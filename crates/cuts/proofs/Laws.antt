@@ -1,24 +1,30 @@
 -- What holds of every cut: what is kept fits the paper, a line loses something exactly if its columns pass the width, and only spaces lie between what is kept and what is dropped.
 use mathlib.Core.Path.{_≡_, sym, ap, _∙_}
 use mathlib.Core.Bool.{true, false}
-use mathlib.Core.List.{List, [], _∷_}
+use mathlib.Core.List.{List, [], _∷_, _++_}
 use Prim.Native.Nat.{ℕ, _+_, _-_, _≤_, _<_}
 use native.Mathlib.Nat.{zero-add}
 use native.Mathlib.Omega.{arith}
 use lib.Dec.{ltb}
-use lib.ListN.{length, getD}
+use lib.ListN.{length, getD, take, length-drop}
+use lib.Seq.{length-take-le}
 use borrow.Author.Tests.{eqb-true, lt-ltb, le-ltb, ltb-true, ltb-false}
 use Rattle.logic.proofs.Choice.{both}
 use Rattle.logic.proofs.Count.{run-passes}
 use Rattle.logic.proofs.Items.{items-each}
+use Rattle.chars.specs.Utf8.{Chr, decode, bytes, firstFault}
+use Rattle.chars.proofs.Laws.{fault-fits}
+use Rattle.measure.specs.declared.Mode.the-variants.{Text}
 use Rattle.words.specs.declared.Word.{Word}
 use Rattle.words.specs.Words.{space, contentEnd, white, afterWord, wordAt, words}
-use Rattle.words.specs.Lists.{widthOfWord}
+use Rattle.words.specs.Lists.{startOf, endOf, widthOfWord}
 use Rattle.words.proofs.Laws.{after-later, after-inside}
 use Rattle.lines.specs.Breaks.{columnsOf}
+use Rattle.pieces.specs.Pieces.{piece, rest, pieceEnd}
+use Rattle.pieces.proofs.Fitting.{leaving, fitting-leaving}
 use Rattle.cuts.specs.declared.Kept.{Kept}
 use Rattle.cuts.specs.declared.Cut.{Cut}
-use Rattle.cuts.specs.Cuts.{lineColumns, fitColumns, keptTo, nothing, cutIn, cutFrom, cutOf}
+use Rattle.cuts.specs.Cuts.{lineColumns, fitEnd, fitColumns, keptTo, nothing, cutIn, cutFrom, cutOf}
 
 -- ---- what is kept fits
 
@@ -82,10 +88,25 @@ wide-is width s = all-wide width s (words s)
 
 -- ---- what stands between
 
--- The dropped part starts where the kept part ends, or only spaces stand between the two.
+-- The dropped part starts in the line, where the kept part ends, or only spaces stand between the two.
 pub record Between (s : List ℕ) (c : Cut) : Type 0 where
   pub order : c .kept .end .0 ≤ c .dropped .0
+  pub inside : c .dropped .0 ≤ length s
   pub spaces : (j : ℕ) → c .kept .end .0 ≤ j → j < c .dropped .0 → getD s j 0 ≡ 0x20
+
+bytes-part : (xs ys : List Chr) → bytes xs ≤ bytes (xs ++ ys)
+unfolding bytes
+bytes-part [] ys = omega arith
+bytes-part (x ∷ xs) ys = let h = bytes-part xs ys in omega arith
+
+-- What fits of a word ends in the word.
+fit-inside : (left : ℕ) (s : List ℕ) (x : Word) → startOf x ≤ endOf x → endOf x ≤ length s → fitEnd left s x ≤ length s
+unfolding pieceEnd firstFault
+fit-inside left s x p q =
+    let t : List ℕ = rest s (endOf x) (startOf x) in
+    let n : length t ≡ endOf x - startOf x = length-drop (startOf x) (take (endOf x) s) ∙ rw (length-take-le (endOf x) s q) in
+    let b = rw (fitting-leaving left 0 Text (decode t)) at (bytes-part (piece left (decode t)) (leaving left 0 Text (decode t))) in
+    omega (arith, n, b, fault-fits t)
 
 -- At a word's start, k being kept.
 record Spaced (s : List ℕ) (k : Kept) (i : ℕ) : Type 0 where
@@ -93,12 +114,12 @@ record Spaced (s : List ℕ) (k : Kept) (i : ℕ) : Type 0 where
   inside : k .end .0 ≤ length s
   spaces : (j : ℕ) → k .end .0 ≤ j → j < i → getD s j 0 ≡ 0x20
 
-in-between : (width : ℕ) (s : List ℕ) (c : ℕ) (k : Kept) (i : ℕ) → Spaced s k i → Between s (cutIn width s c k (wordAt s i))
-unfolding cutIn wordAt
-in-between width s c k i h =
+in-between : (width : ℕ) (s : List ℕ) (c : ℕ) (k : Kept) (i : ℕ) → i < length s → Spaced s k i → Between s (cutIn width s c k (wordAt s i))
+unfolding cutIn wordAt afterWord contentEnd
+in-between width s c k i l h =
     both (ltb width (c + fitColumns (width - c) s (wordAt s i)))
-    (λ t. rw t (record { order = h .order; spaces = h .spaces }))
-    (λ f. rw f (record { order = omega arith; spaces = λ j a b. absurd (omega arith) }))
+    (λ t. rw t (record { order = h .order; inside = omega arith; spaces = h .spaces }))
+    (λ f. rw f (record { order = omega arith; inside = fit-inside (width - c) s (wordAt s i) (omega arith) (omega (arith, after-inside s i (omega arith))); spaces = λ j a b. absurd (omega arith) }))
 
 next-spaced : (s : List ℕ) (c i : ℕ) → i < length s → Spaced s (keptTo c (wordAt s i)) (afterWord s i)
 unfolding wordAt afterWord white
@@ -113,9 +134,9 @@ unfolding cutOf cutFrom words
 between width s =
     items-each (wordAt s) (afterWord s) (length s) (λ i. Unit) (λ i u l. (after-later s i l, tt))
     (λ i xs. (c : ℕ) (k : Kept) → Spaced s k i → Between s (cutFrom width s c k xs))
-    (λ i u l c k h. record { order = h .inside; spaces = λ j a b. h .spaces j a (omega arith) })
+    (λ i u l c k h. record { order = h .inside; inside = omega arith; spaces = λ j a b. h .spaces j a (omega arith) })
     (λ i xs u l q c k h.
     both (ltb width (c + widthOfWord (wordAt s i)))
-    (λ t. rw t (in-between width s c k i h))
+    (λ t. rw t (in-between width s c k i l h))
     (λ f. rw f (q (c + columnsOf (wordAt s i)) (keptTo c (wordAt s i)) (next-spaced s c i l))))
     0 tt 0 nothing (record { order = omega arith; inside = omega arith; spaces = λ j a b. absurd (omega arith) })
