@@ -3,3 +3,5 @@ pub mod Showing
 pub mod Ruling
 pub mod Tallies
 pub mod Rows
+pub mod Whole
+pub mod Examples
