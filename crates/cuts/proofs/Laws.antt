@@ -15,6 +15,7 @@ use Rattle.logic.proofs.Items.{items-each}
 use Rattle.chars.specs.Utf8.{Chr, decode, bytes, firstFault}
 use Rattle.chars.proofs.Laws.{fault-fits}
 use Rattle.measure.specs.declared.Mode.the-variants.{Text}
+use Rattle.first_fit.specs.Groupings.{lineWidth}
 use Rattle.words.specs.declared.Word.{Word}
 use Rattle.words.specs.Words.{space, contentEnd, white, afterWord, wordAt, words}
 use Rattle.words.specs.Lists.{startOf, endOf, widthOfWord}
@@ -56,12 +57,12 @@ in-wide width s c k x = both (ltb width (c + fitColumns (width - c) s x)) (λ t.
 
 -- Further words make a line no narrower.
 first-least : (x : Word) (xs : List Word) → widthOfWord x ≤ lineColumns (x ∷ xs)
-unfolding lineColumns
+unfolding lineWidth
 first-least x [] = omega arith
 first-least x (y ∷ ys) = omega arith
 
 from-wide : (width : ℕ) (s : List ℕ) (c : ℕ) (k : Kept) (x : Word) (xs : List Word) → cutFrom width s c k (x ∷ xs) .wide ≡ ltb width (c + lineColumns (x ∷ xs))
-unfolding cutFrom lineColumns
+unfolding cutFrom lineWidth
 from-wide width s c k x [] = both (ltb width (c + widthOfWord x)) (λ t. rw t (in-wide width s c k x)) (λ f. rw f)
 from-wide width s c k x (y ∷ ys) =
     both (ltb width (c + widthOfWord x))
@@ -73,7 +74,7 @@ from-wide width s c k x (y ∷ ys) =
     rw f (from-wide width s (c + columnsOf x) (keptTo c x) y ys ∙ ap (ltb width) n))
 
 no-words : (width : ℕ) → false ≡ ltb width (lineColumns [])
-unfolding lineColumns
+unfolding lineWidth
 no-words width = sym (le-ltb width 0 (omega arith))
 
 all-wide : (width : ℕ) (s : List ℕ) (xs : List Word) → cutFrom width s 0 nothing xs .wide ≡ ltb width (lineColumns xs)

@@ -1,7 +1,7 @@
 -- The cut of a line: "The printer drops whatever passes its last column and says nothing." Words as document 01 has them, so that a line of two or more words is too wide here exactly where the check says so.
 use Prim.Native.Nat.{ℕ, _+_, _-_}
 use mathlib.Core.Bool.{true, false}
-use mathlib.Core.List.{List, [], _∷_}
+use mathlib.Core.List.{List, [], _∷_, map}
 use lib.Dec.{ltb}
 use lib.ListN.{length}
 use Rattle.logic.specs.Choice.{pick}
@@ -11,16 +11,15 @@ use Rattle.measure.specs.Escapes.{widthFrom}
 use Rattle.words.specs.declared.Word.{Word}
 use Rattle.words.specs.Words.{words}
 use Rattle.words.specs.Lists.{startOf, endOf, widthOfWord}
-use Rattle.lines.specs.Breaks.{columnsOf}
+use Rattle.first_fit.specs.Groupings.{lineWidth}
+use Rattle.lines.specs.Breaks.{fragmentOf, columnsOf}
 use Rattle.pieces.specs.Pieces.{piece, rest, pieceEnd}
 use Rattle.cuts.specs.declared.Kept.{Kept}
 use Rattle.cuts.specs.declared.Cut.{Cut}
 
--- The columns of a line by its words: each word's, and the whitespace between two. Spaces at the end do not count, and the line as a whole is not measured.
-unfoldable pub lineColumns : List Word → ℕ
-lineColumns [] = 0
-lineColumns (x ∷ []) = widthOfWord x
-lineColumns (x ∷ y ∷ xs) = columnsOf x + lineColumns (y ∷ xs)
+-- The columns of a line by its words: each word's, and the whitespace between two. Spaces at the end do not count, and the line as a whole is not measured. It is what the check counts.
+abbrev pub lineColumns : List Word → ℕ
+lineColumns ws = lineWidth (map fragmentOf ws)
 
 -- What of a word's content still fits into so many columns, which is its first piece: where it ends, and its columns.
 abbrev pub fitEnd : ℕ → List ℕ → Word → ℕ
