@@ -5,7 +5,6 @@
 // An escape takes no column on the printer. Shown in its place it takes some, so the rest of that row
 // stands further to the right than on the paper.
 ghost use mathlib.Core.Path.{_≡_};
-ghost use mathlib.Core.Bool.{Bool};
 ghost use Prim.Native.Nat.{_+_, _-_, _*_, _%_, _≤_};
 ghost use lib.ListN.{length, getD, drop};
 ghost use Rattle.units.specs.Limits.{textMost, widthMost};
@@ -32,7 +31,22 @@ const EDGE: u8 = 0x7C;
 // What stands over the last column.
 const LAST: u8 = 0x76;
 
-// What a byte is shown by: the third byte of its picture, of which the first two are the same for all.
+// The digit 0.
+const ZERO: usize = 48;
+
+// The control characters of C1 are two bytes: this one, and one between these bounds.
+const C1_FIRST: u8 = 0xC2;
+
+const C1_LEAST: u8 = 0x80;
+
+const C1_MOST: u8 = 0x9F;
+
+// The picture of a control character is three bytes. The first two are the same for all; the third is
+// this one and on for those below 20, and one each for 7F and for all of C1.
+const PICTURE_FIRST: u8 = 0xE2;
+
+const PICTURE_SECOND: u8 = 0x90;
+
 const PICTURE: u8 = 0x80;
 
 const DELETE_PICTURE: u8 = 0xA1;
@@ -71,7 +85,7 @@ pub const NO_LINES: Tally = Tally {
 fn is_c1(b: u8, next: u8) -> bool
     ensures { λ r. ⌜ r ≡ isC1 b next ⌝ }
 {
-    (b == 0xC2) & ((0x80 <= next) & (next <= 0x9F))
+    (b == C1_FIRST) & ((C1_LEAST <= next) & (next <= C1_MOST))
 }
 
 // Adds the picture of a control character.
@@ -79,7 +93,7 @@ fn say_picture(out: &mut [u8], at: usize, last: u8) -> usize
     requires { ⌜ at + 3 ≤ length (now out) ⌝ }
     ensures { λ r. ⌜ Said (now (out .entry)) at (picture last) r (now (out .exit)) ⌝ }
 {
-    let bytes = [0xE2, 0x90, last];
+    let bytes = [PICTURE_FIRST, PICTURE_SECOND, last];
     saying::say(out, at, &bytes)
 }
 
@@ -131,7 +145,7 @@ pub fn say_shown(out: &mut [u8], at: usize, bytes: &[u8]) -> usize
     to
 }
 
-// Adds what of a line the printer drops, with a word before it, if it drops anything.
+// Adds what of a line the printer drops, if it drops anything, with ten bytes before it that say so.
 fn say_dropped(out: &mut [u8], at: usize, line: &[u8], wide: bool, dropped: usize) -> usize
     requires { ⌜ (dropped ≤ length (now line)) × (at + 10 + 3 * (length (now line) - dropped) ≤ length (now out)) ⌝ }
     ensures { λ r. ⌜ Said (now (out .entry)) at (droppedPart (now (line .entry)) wide dropped) r (now (out .exit)) ⌝ }
@@ -201,7 +215,7 @@ pub fn row(out: &mut [u8], text: &[u8], from: usize, width: usize) -> Printed
 fn digit(n: usize) -> u8
     ensures { λ r. ⌜ r ≡ digitOf (n % 10) ⌝ }
 {
-    (48 + n % 10) as u8
+    (ZERO + n % 10) as u8
 }
 
 // What the ruler's first row has over a column: `v` over the last one, the tens at each tenth.
@@ -291,7 +305,7 @@ pub fn counted(tally: Tally, wide: bool) -> Tally
     }
 }
 
-// Adds which line is the first that is too wide, if one is.
+// Adds which line is the first that is too wide, if one is: 23 bytes that say so, and a number.
 fn say_first(out: &mut [u8], at: usize, tally: Tally) -> usize
     requires { ⌜ at + 43 ≤ length (now out) ⌝ }
     ensures { λ r. ⌜ Said (now (out .entry)) at (firstWide tally) r (now (out .exit)) ⌝ }
