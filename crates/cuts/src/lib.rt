@@ -97,6 +97,7 @@ pub fn cut_of(line: &[u8], width: usize) -> Cut
     while at.0 < line.len() {
         let word = word_at(line, at);
         let sum = columns + word.width.0;
+        let both = sum + word.white.0;
         if width < sum {
             return cut_in(line, columns, kept, word, width);
         }
@@ -106,7 +107,7 @@ pub fn cut_of(line: &[u8], width: usize) -> Cut
             end,
             columns: Columns(sum),
         };
-        columns = sum + word.white.0;
+        columns = both;
         at = Offset(next);
     }
     Cut {

@@ -21,6 +21,9 @@ word-at-requires c κs = search (cutting, needs)
 add-sum : tie.Need-add-sum Inv-loop μ-loop
 add-sum c = search (cutting, needs)
 
+add-both : tie.Need-add-both Inv-loop μ-loop
+add-both c = search (cutting, needs)
+
 cut-in-requires : tie.Need-cut-in-requires Inv-loop μ-loop
 cut-in-requires c κs = search (cutting, needs)
 
@@ -29,9 +32,6 @@ returns c = search (cutting, needs)
 
 add-next : tie.Need-add-next Inv-loop μ-loop
 add-next c = search (cutting, needs)
-
-add-columns : tie.Need-add-columns Inv-loop μ-loop
-add-columns c = search (cutting, needs)
 
 loop-less : tie.Need-loop-less Inv-loop μ-loop
 loop-less c = search (cutting, needs)
@@ -51,10 +51,10 @@ cut-of-spec =
     loop-holds
     word-at-requires
     add-sum
+    add-both
     cut-in-requires
     returns
     add-next
-    add-columns
     loop-less
     loop-again
     returns-2)
