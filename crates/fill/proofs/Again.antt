@@ -20,19 +20,13 @@ use Rattle.words.proofs.Theory.{content-stops, white-stops, after-content, star
 use Rattle.lines.specs.Lines.{inLine, lineEnd, bodyEnd, nextLine, lineAt, inputLines, bodyOf}
 use Rattle.lines.specs.Breaks.{breaks, breaksAll, textBreaks, broken, filled}
 use Rattle.lines.specs.Walk.{metAt, startsAt}
-use Rattle.lines.proofs.Laws.{linesFrom, lines-start, lines-next, lines-none, next-is, line-inside, body-length, slice-mid}
+use Rattle.lines.proofs.Laws.{linesFrom, lines-start, lines-next, lines-none, next-is, line-inside, body-length, slice-mid, count-take}
 use Rattle.lines.proofs.Breaking.{broken-length}
 use Rattle.lines.proofs.Walk.{drop-on, met-stays, later, later-start, later-break, later-join, later-end}
 use Rattle.lines.proofs.Allowed.{body-byte}
 use Rattle.lines.proofs.Rising.{Rising, later-rises, all-rise, broken-other, broken-there}
 
 -- ---- a word of a piece
-
-count-take : (p : ℕ → Bool) (n : ℕ) (l : List ℕ) → count p (take n l) ≡ min n (count p l)
-unfolding count
-count-take p zero l = omega arith
-count-take p (suc n) [] = omega arith
-count-take p (suc n) (b ∷ t) = let i = count-take p n t in both (p b) (λ e. rw e (omega arith)) (λ e. rw e (omega arith))
 
 -- A run that ends before the piece does is whole in it.
 whole-run : (a v e : ℕ) → a + v ≤ e → min (e - a) v ≡ v

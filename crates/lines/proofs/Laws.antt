@@ -1,14 +1,16 @@
 -- The laws of input lines that the crates above use: one line after the other, each body in the text, UTF-8 where the text is, and the same whatever stands before it. A crate above uses these and not
 -- the text of `bodyEnd` or `nextLine`.
 use mathlib.Core.Path.{_≡_, refl, sym, ap, _∙_}
+use mathlib.Core.Bool.{Bool}
 use mathlib.Core.List.{List, [], _∷_, _++_}
-use Prim.Native.Nat.{ℕ, zero, suc, _+_, _-_, _≤_, _<_}
+use Prim.Native.Nat.{ℕ, zero, suc, _+_, _-_, _≤_, _<_, min}
 use native.Mathlib.Numerals.{add-one}
 use native.Mathlib.Omega.{arith}
 use lib.ListN.{length, take, drop, take-append-drop, length-drop}
 use lib.Seq.{slice, length-slice, drop-drop, take-length, take-nil}
 use Rattle.logic.specs.Count.{count}
 use Rattle.logic.specs.Items.{items}
+use Rattle.logic.proofs.Choice.{both}
 use Rattle.logic.proofs.Count.{count-fits}
 use Rattle.logic.proofs.Items.{items-next, items-none}
 use Rattle.chars.specs.Utf8.{Whole}
@@ -66,6 +68,13 @@ slice-mid zero e s = let n : e - 0 ≡ e = omega arith in rw n
 slice-mid (suc a) zero s = let n : 0 - suc a ≡ 0 = omega arith in rw n
 slice-mid (suc a) (suc e) [] = rw (take-nil {A = ℕ} (suc e - suc a))
 slice-mid (suc a) (suc e) (x ∷ s) = let n : suc e - suc a ≡ e - a = omega arith in rw n (slice-mid a e s)
+
+-- A run in the first n bytes of a list.
+pub count-take : (p : ℕ → Bool) (n : ℕ) (l : List ℕ) → count p (take n l) ≡ min n (count p l)
+unfolding count
+count-take p zero l = omega arith
+count-take p (suc n) [] = omega arith
+count-take p (suc n) (b ∷ t) = let i = count-take p n t in both (p b) (λ e. rw e (omega arith)) (λ e. rw e (omega arith))
 
 pub body-length : (s : List ℕ) (i : ℕ) → i ≤ length s → length (bodyOf s (lineAt s i)) ≡ bodyEnd s i - i
 body-length s i l = length-slice i (bodyEnd s i) s (omega (arith, body-inside s i l .1, line-inside s i l .1))

@@ -1,0 +1,7 @@
+pub mod Telling
+pub mod Showing
+pub mod Ruling
+pub mod Tallies
+pub mod Rows
+pub mod Whole
+pub mod Examples
