@@ -10,7 +10,8 @@ use lib.Seq.{drop-cons, getD-take}
 use Rattle.logic.specs.Choice.{pick}
 use Rattle.logic.proofs.Choice.{both}
 use Rattle.refusals.specs.declared.Spot.{Spot}
-use Rattle.refusals.specs.Places.{isNewline, startsCharacter, newlines, columnAfter, lineOf, columnOf, spotOf}
+use Rattle.lines.specs.Lines.{newline}
+use Rattle.refusals.specs.Places.{startsCharacter, newlines, columnAfter, lineOf, columnOf, spotOf}
 
 -- i bytes of the text before the place are passed, and a person who reads on stands at this line and column.
 pub record Finding (text : List ℕ) (place end i line column : ℕ) : Type 0 where
@@ -35,13 +36,13 @@ finding-start text place end e = record {
 
 module _ {text : List ℕ} {place end i line column : ℕ} (f : Finding text place end i line column) where
   -- After the byte at i: its line and column are those that the definitions give.
-  step : {line′ column′ : ℕ} → i < end → line′ ≡ pick (isNewline (getD text i 0)) (line + 1) line → column′ ≡ pick (isNewline (getD text i 0)) 1 (pick (startsCharacter (getD text i 0)) (column + 1) column)
+  step : {line′ column′ : ℕ} → i < end → line′ ≡ pick (newline (getD text i 0)) (line + 1) line → column′ ≡ pick (newline (getD text i 0)) 1 (pick (startsCharacter (getD text i 0)) (column + 1) column)
       → line′ ≤ line + 1 → column′ ≤ i + 2 → Finding text place end (i + 1) line′ column′
   unfolding newlines columnAfter
   step {line′} {column′} l p q a b =
       let next : drop i (take place text) ≡ getD text i 0 ∷ drop (i + 1) (take place text) = rw (add-one i, drop-cons (take place text) i 0 (omega (arith, f .all)), getD-take place text i 0 (omega (arith, f .before))) in
       let more : line + newlines (drop i (take place text)) ≡ line′ + newlines (drop (i + 1) (take place text)) =
-      both (isNewline (getD text i 0)) (λ t. rw (next, p, t) (omega arith)) (λ t. rw (next, p, t)) in
+      both (newline (getD text i 0)) (λ t. rw (next, p, t) (omega arith)) (λ t. rw (next, p, t)) in
       let on : columnAfter column (drop i (take place text)) ≡ columnAfter column′ (drop (i + 1) (take place text)) = rw (next, q) in
       record {
         lines = sym more ∙ f .lines;
@@ -53,7 +54,7 @@ module _ {text : List ℕ} {place end i line column : ℕ} (f : Finding text pla
         before = f .before;
       }
 
-  module _ {r : Bool} (l : i < end) (e : r ≡ isNewline (getD text i 0)) where
+  module _ {r : Bool} (l : i < end) (e : r ≡ newline (getD text i 0)) where
     pub finding-newline : r ≡ true → Finding text place end (i + 1) (line + 1) 1
     finding-newline q = step l (rw (← e, q)) (rw (← e, q)) (omega arith) (omega arith)
 

@@ -5,12 +5,13 @@ use Prim.Native.Nat.{ℕ, _+_}
 use native.Mathlib.Omega.{arith}
 use Rattle.logic.specs.Choice.{pick}
 use Rattle.logic.proofs.Choice.{both}
-use Rattle.refusals.specs.Places.{isNewline, startsCharacter, newlines, columnAfter}
+use Rattle.lines.specs.Lines.{newline}
+use Rattle.refusals.specs.Places.{startsCharacter, newlines, columnAfter}
 
 pub column-fresh : (n : ℕ) (before line : List ℕ) → columnAfter n (before ++ (0x0A ∷ line)) ≡ columnAfter 1 line
 unfolding columnAfter
 column-fresh n [] line = refl
-column-fresh n (b ∷ t) line = column-fresh (pick (isNewline b) 1 (pick (startsCharacter b) (n + 1) n)) t line
+column-fresh n (b ∷ t) line = column-fresh (pick (newline b) 1 (pick (startsCharacter b) (n + 1) n)) t line
 
 abbrev pub characters : List ℕ → ℕ
 characters [] = 0
@@ -20,7 +21,7 @@ pub column-line : (n : ℕ) (line : List ℕ) → newlines line ≡ 0 → column
 unfolding newlines columnAfter
 column-line n [] e = omega arith
 column-line n (b ∷ t) e =
-    both (isNewline b)
+    both (newline b)
     (λ q. let z : newlines t + 1 ≡ 0 = rw q at e in absurd (omega arith))
     (λ q.
     let z : newlines t ≡ 0 = rw q at e in

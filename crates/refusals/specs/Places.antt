@@ -2,13 +2,10 @@
 use Prim.Native.Nat.{ℕ, _+_}
 use mathlib.Core.Bool.{Bool, not}
 use mathlib.Core.List.{List, [], _∷_}
-use lib.Dec.{eqb}
 use lib.ListN.{take}
 use Rattle.logic.specs.Choice.{pick, within}
+use Rattle.lines.specs.Lines.{newline}
 use Rattle.refusals.specs.declared.Spot.{Spot}
-
-abbrev pub isNewline : ℕ → Bool
-isNewline b = eqb b 0x0A
 
 -- A character is counted at its first byte: at each byte that is not 80 to BF.
 abbrev pub startsCharacter : ℕ → Bool
@@ -16,12 +13,12 @@ startsCharacter b = not (within 0x80 0xBF b)
 
 unfoldable pub newlines : List ℕ → ℕ
 newlines [] = 0
-newlines (b ∷ t) = pick (isNewline b) (newlines t + 1) (newlines t)
+newlines (b ∷ t) = pick (newline b) (newlines t + 1) (newlines t)
 
 -- The column after bytes that start at column n: 1 after a newline, one more after a character.
 unfoldable pub columnAfter : ℕ → List ℕ → ℕ
 columnAfter n [] = n
-columnAfter n (b ∷ t) = columnAfter (pick (isNewline b) 1 (pick (startsCharacter b) (n + 1) n)) t
+columnAfter n (b ∷ t) = columnAfter (pick (newline b) 1 (pick (startsCharacter b) (n + 1) n)) t
 
 -- 1 and the newlines before the place
 abbrev pub lineOf : List ℕ → ℕ → ℕ

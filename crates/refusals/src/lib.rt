@@ -5,7 +5,7 @@ ghost use mathlib.Core.Path.{_≡_};
 ghost use Prim.Native.Nat.{_+_, _≤_, min};
 ghost use lib.ListN.{length};
 ghost use Rattle.saying.specs.Saying.{Said};
-ghost use Rattle.refusals.specs.Places.{isNewline, startsCharacter, spotOf};
+ghost use Rattle.refusals.specs.Places.{startsCharacter, spotOf};
 ghost use Rattle.refusals.specs.Sentences.{sentenceMost, sentence, lengthsDiffer, columnsMost, inColumns};
 ghost use Rattle.refusals.specs.Lines.{lineMost, hasPlace, inAfter, shownPlace, placeWords, spotMost, placePart, partingMost, partingPart, refusalLine};
 use saying::say;
@@ -16,8 +16,6 @@ use units::TEXT_MOST;
 
 // The longest line of a refusal: a buffer of so many bytes has room for any.
 pub const LINE_MOST: usize = 384;
-
-const NEWLINE: u8 = 0x0A;
 
 // The numbers of document 01 whose place is a byte of a text; and 9, with which the place is told where
 // the texts part.
@@ -37,12 +35,6 @@ const MANY_LINES: u32 = 12;
 pub struct Spot {
     pub line: usize,
     pub column: usize,
-}
-
-fn is_newline(b: u8) -> bool
-    ensures { λ r. ⌜ r ≡ isNewline b ⌝ }
-{
-    b == NEWLINE
 }
 
 // Whether a character is counted at a byte: not at one that is a further byte of a character.
@@ -69,7 +61,7 @@ pub fn spot_of(text: &[u8], place: usize) -> Spot
     while i < end {
         let b = text[i];
         i += 1;
-        if is_newline(b) {
+        if lines::is_newline(b) {
             line += 1;
             column = 1;
         } else if starts_character(b) {
@@ -249,5 +241,5 @@ pub fn refusal_line(
     let third = say(out, second, b": ");
     let fourth = say_sentence(out, third, number, width, before.len(), after.len());
     let fifth = say_parting(out, fourth, number, before, after);
-    say_byte(out, fifth, NEWLINE)
+    say_byte(out, fifth, lines::NEWLINE)
 }
