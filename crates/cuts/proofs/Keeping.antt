@@ -142,15 +142,20 @@ module _ (s : List ℕ) (c i : ℕ) (k : Kept) (l : i < length s) where
     unfolding left contentEnd
     left-is = let z : i + count letter (drop i s) - i ≡ count letter (drop i s) = omega arith in slice-mid i (contentEnd s i) s ∙ ap (λ m. take m (drop i s)) z
 
+    left-long : length left ≡ count letter (drop i s)
+    left-long = ap length left-is ∙ length-content s i
+
+    left-whole : Whole left
+    left-whole = rw left-is (content-whole s i w)
+
     held-part : c + fitColumns (width - c) s (wordAt s i) ≤ width
         → Held s c i k (record { end = record { 0 = fitEnd (width - c) s (wordAt s i) }; columns = record { 0 = c + fitColumns (width - c) s (wordAt s i) } })
     unfolding left wordAt pieceEnd widthOf
     held-part g =
         let n : 0 < count letter (drop i s) = both (ltb 0 (count letter (drop i s))) (λ t. ltb-true 0 (count letter (drop i s)) t) (λ t. absurd (omega (arith, no-letters s i (omega (arith, ltb-false 0 (count letter (drop i s)) t))))) in
-        let v : Whole left = rw left-is (content-whole s i w) in
-        let m : length left ≡ count letter (drop i s) = ap length left-is ∙ length-content s i in
-        let a = piece-parts (width - c) left v in
-        let d = piece-some (width - c) left v (omega arith) in
+        let m = left-long in
+        let a = piece-parts (width - c) left left-whole in
+        let d = piece-some (width - c) left left-whole (omega arith) in
         let ys = bytes (piece (width - c) (decode left)) in
         let z : i + ys - i ≡ ys = omega arith in
         let u : take ys (drop i s) ≡ take ys left = sym (ap (take ys) left-is ∙ take-take ys (count letter (drop i s)) (drop i s) (omega (arith, a .inside))) in
@@ -163,9 +168,8 @@ module _ (s : List ℕ) (c i : ℕ) (k : Kept) (l : i < length s) where
     held-short : c + fitColumns (width - c) s (wordAt s i) ≤ width → fitEnd (width - c) s (wordAt s i) < length s
     unfolding left wordAt pieceEnd widthOf widthFrom decodeFrom
     held-short g =
-        let v : Whole left = rw left-is (content-whole s i w) in
-        let m : length left ≡ count letter (drop i s) = ap length left-is ∙ length-content s i in
-        let a = piece-parts (width - c) left v in
+        let m = left-long in
+        let a = piece-parts (width - c) left left-whole in
         let ys = bytes (piece (width - c) (decode left)) in
         both (ltb ys (length left))
         (λ t. omega (arith, ltb-true ys (length left) t, end-inside s i l, inside-content s i (count letter (drop i s)) (omega arith)))

@@ -1,5 +1,6 @@
 pub mod Telling
 pub mod Showing
+pub mod Again
 pub mod Ruling
 pub mod Tallies
 pub mod Rows
