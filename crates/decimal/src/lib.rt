@@ -1,10 +1,11 @@
-// The number that a row of digits is.
+// Numbers as people write them: whether a row of bytes is one, and which. What a number counts is not
+// known here; one that is larger than any bound of document 01 stands for all that are.
 ghost use mathlib.Core.Path.{_≡_};
 ghost use Prim.Native.Nat.{_≤_};
-ghost use Rattle.wordlist.specs.Wordlist.{digit, worth, withDigit, decimal};
+ghost use Rattle.decimal.specs.Decimal.{digit, worth, withDigit, decimal, isNumber};
 
 // A larger number counts as this one.
-const MOST: usize = 99999;
+pub const MOST: usize = 99999;
 
 fn is_digit(b: u8) -> bool
     ensures { λ r. ⌜ r ≡ digit b ⌝ }
@@ -47,4 +48,21 @@ fn value(b: u8) -> usize
     ensures { λ r. ⌜ r ≤ 255 ⌝ }
 {
     if b < 48 { 0 } else { b as usize - 48 }
+}
+
+// Whether a row of bytes is a number: digits alone, and one at least.
+pub fn is_number(s: &[u8]) -> bool
+    ensures { λ r. ⌜ r ≡ isNumber (now (s .entry)) ⌝ }
+{
+    if s.len() == 0 {
+        return false;
+    }
+    let mut i = 0;
+    while i < s.len() {
+        if !is_digit(s[i]) {
+            return false;
+        }
+        i += 1;
+    }
+    true
 }

@@ -7,8 +7,8 @@ use native.Mathlib.Numerals.{add-one}
 use native.Mathlib.Omega.{arith}
 use lib.ListN.{length, drop, getD, drop-of-length-le}
 use lib.Seq.{drop-cons}
-use borrow.Author.Tests.{not-true, not-false}
-use Rattle.wordlist.specs.Wordlist.{digit, worth, withDigit, decimal}
+use borrow.Author.Tests.{not-true, not-false, eq-eqb, ne-eqb}
+use Rattle.decimal.specs.Decimal.{digit, worth, withDigit, decimal, allDigits, isNumber}
 
 pub record Reading (s : List ℕ) (n i : ℕ) : Type 0 where
   pub left : decimal n (drop i s) ≡ decimal 0 s
@@ -35,3 +35,35 @@ unfolding decimal
 reading-end {s} {n} {i} r h = rw (drop-of-length-le s h) at (r .left)
 
 pub ruleset reading = (reading-start, reading-step, reading-stop, reading-end, not-true, not-false)
+
+-- ---- whether all are digits
+
+pub record Passing (s : List ℕ) (i : ℕ) : Type 0 where
+  pub left : allDigits (drop i s) ≡ allDigits s
+  pub some : length s ≡ 0 → ⊥
+
+pub passing-start : (s : List ℕ) → (length s ≡ 0 → ⊥) → Passing s 0
+passing-start s h = record { left = refl; some = h }
+
+module _ {s : List ℕ} {i : ℕ} {t : Bool} (r : Passing s i) (h : i < length s) (e : t ≡ digit (getD s i 0)) where
+  pub passing-step : t ≡ true → Passing s (i + 1)
+  unfolding allDigits
+  passing-step q =
+      let is : digit (getD s i 0) ≡ true = cc in
+      record { left = rw (add-one i) (rw (drop-cons s i 0 h, is) at (r .left)); some = r .some }
+
+  pub passing-stop : t ≡ false → false ≡ isNumber s
+  unfolding allDigits isNumber
+  passing-stop q =
+      let none : digit (getD s i 0) ≡ false = cc in
+      rw (ne-eqb (length s) 0 (r .some)) (rw (drop-cons s i 0 h, none) at (r .left))
+
+pub passing-end : {s : List ℕ} {i : ℕ} → Passing s i → length s ≤ i → true ≡ isNumber s
+unfolding allDigits isNumber
+passing-end {s} {i} r h = rw (ne-eqb (length s) 0 (r .some)) (rw (drop-of-length-le s h) at (r .left))
+
+pub passing-none : (s : List ℕ) → length s ≡ 0 → false ≡ isNumber s
+unfolding isNumber
+passing-none s h = rw (eq-eqb (length s) 0 h)
+
+pub ruleset passing = (passing-start, passing-step, passing-stop, passing-end, passing-none, not-true, not-false)

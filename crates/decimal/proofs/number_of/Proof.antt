@@ -1,10 +1,10 @@
 -- `number_of`: one law of `reading` for each way into, round and out of the loop. The measure is what is left of the row.
 use Prim.Native.Nat.{_-_}
 use lib.ListN.{length}
-use Rattle.wordlist.proofs.Digits.{Reading, reading}
+use Rattle.decimal.proofs.Digits.{Reading, reading}
 use borrow.Author.Needs.{needs}
-use Rattle.wordlist.proofs.number.number_of.Statement.{statement}
-use Rattle.wordlist.proofs.number.number_of.Tie as tie
+use Rattle.decimal.proofs.number_of.Statement.{statement}
+use Rattle.decimal.proofs.number_of.Tie as tie
 
 abbrev Inv-loop : tie.InvT-loop
 Inv-loop s n₀ i₀ n i = Reading s n i
