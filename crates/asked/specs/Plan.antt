@@ -2,10 +2,11 @@
 -- `slip check [WIDTH] BEFORE AFTER`, `slip help`.
 use Prim.Native.Nat.{ℕ}
 use mathlib.Core.Bool.{Bool, _&&_, _||_}
-use mathlib.Core.List.{List, [], _∷_}
+use mathlib.Core.List.{List}
 use lib.Dec.{eqb, leb}
 use lib.ListN.{length}
 use Rattle.logic.specs.Choice.{pick}
+use Rattle.saying.specs.Ascii.{ascii}
 use Rattle.decimal.specs.Decimal.{decimal, isNumber}
 use Rattle.asked.specs.declared.Part.{Part}
 use Rattle.asked.specs.declared.File.{File}
@@ -32,37 +33,22 @@ argumentMost = 4095
 
 -- ---- the first word
 
-abbrev measureName : List ℕ
-measureName = 109 ∷ 101 ∷ 97 ∷ 115 ∷ 117 ∷ 114 ∷ 101 ∷ []
-
-abbrev wordsName : List ℕ
-wordsName = 119 ∷ 111 ∷ 114 ∷ 100 ∷ 115 ∷ []
-
-abbrev fillName : List ℕ
-fillName = 102 ∷ 105 ∷ 108 ∷ 108 ∷ []
-
-abbrev showName : List ℕ
-showName = 115 ∷ 104 ∷ 111 ∷ 119 ∷ []
-
-abbrev checkName : List ℕ
-checkName = 99 ∷ 104 ∷ 101 ∷ 99 ∷ 107 ∷ []
-
 -- `help`, `--help` and `-h`
 abbrev pub isHelp : List ℕ → Bool
-isHelp w = (same w (104 ∷ 101 ∷ 108 ∷ 112 ∷ []) || same w (45 ∷ 45 ∷ 104 ∷ 101 ∷ 108 ∷ 112 ∷ [])) || same w (45 ∷ 104 ∷ [])
+isHelp w = (same w (ascii "help") || same w (ascii "--help")) || same w (ascii "-h")
 
 unfoldable pub otherOf : List ℕ → Command
 otherOf w =
-    pick (same w showName) command.Show
-    (pick (same w checkName) command.Check
+    pick (same w (ascii "show")) command.Show
+    (pick (same w (ascii "check")) command.Check
     (pick (isHelp w) command.Help
     command.Unknown))
 
 unfoldable pub commandOf : List ℕ → Command
 commandOf w =
-    pick (same w measureName) command.Measure
-    (pick (same w wordsName) command.Words
-    (pick (same w fillName) command.Fill
+    pick (same w (ascii "measure")) command.Measure
+    (pick (same w (ascii "words")) command.Words
+    (pick (same w (ascii "fill")) command.Fill
     (otherOf w)))
 
 -- ---- the words after it
@@ -73,7 +59,7 @@ none b at = leb (length b) at
 
 -- "No FILE, or `-`, is standard input."
 abbrev pub isInput : List ℕ → ℕ → Bool
-isInput b at = same (wordAt b at) (45 ∷ [])
+isInput b at = same (wordAt b at) (ascii "-")
 
 unfoldable pub fileAt : List ℕ → ℕ → File
 fileAt b at = pick (isInput b at) Input (Named (partAt b at))

@@ -122,7 +122,7 @@ fn nowhere() -> Part
 }
 
 // Whether two rows of bytes are the same.
-fn is_same(a: &[u8], b: &[u8]) -> bool
+pub fn is_same(a: &[u8], b: &[u8]) -> bool
     ensures { λ r. ⌜ r ≡ same (now (a .entry)) (now (b .entry)) ⌝ }
 {
     if a.len() != b.len() {
