@@ -1,0 +1,5 @@
+pub mod Telling
+pub mod Showing
+pub mod Ruling
+pub mod Tallies
+pub mod Rows
