@@ -25,6 +25,10 @@ module _ {o l o′ : List ℕ} {at r : ℕ} (s : Said o at l r o′) where
   pub said-length : length o′ ≡ length o
   said-length = rw (s .left) (length-sets o at l)
 
+  -- So many bytes of it can be taken: what lending `&out[..r]` asks for.
+  pub said-taken : r ≡ length (take r o′)
+  said-taken = sym (length-take-le r o′ (rw said-length (s .room)))
+
 -- A line that is said from the start of a buffer is what the buffer holds.
 pub said-line : {o l o′ : List ℕ} {r : ℕ} → Said o 0 l r o′ → take r o′ ≡ l
 said-line s = said-take s

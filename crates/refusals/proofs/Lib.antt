@@ -1,0 +1,3 @@
+pub mod Finding
+pub mod Telling
+pub mod Examples
