@@ -1,7 +1,6 @@
 -- Lines of refusals, computed from the definitions.
 use mathlib.Core.Path.{_≡_, refl}
-use mathlib.Core.List.{List, [], _∷_, _++_}
-use Prim.Native.Nat.{ℕ}
+use mathlib.Core.List.{[], _∷_, _++_}
 use Rattle.units.specs.Answers.{refusal}
 use Rattle.saying.specs.Saying.{decimalFor, decimalOf}
 use Rattle.saying.specs.Ascii.{ascii}

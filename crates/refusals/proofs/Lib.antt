@@ -1,3 +1,4 @@
 pub mod Finding
+pub mod Places
 pub mod Telling
 pub mod Examples

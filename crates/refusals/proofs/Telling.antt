@@ -1,4 +1,4 @@
--- The sentence of a number, by its place in the table; and the place of a refusal, where it has one.
+-- The sentence of a number, by its row in the table; and the place of a refusal, where it has one.
 use mathlib.Core.Path.{_≡_, sym, _∙_}
 use mathlib.Core.Bool.{Bool, true, false, not}
 use mathlib.Core.List.{List, _++_}

@@ -1,7 +1,7 @@
 -- The whole line of a refusal: its number, its place where it has one in a text, and its sentence.
 use Prim.Native.Nat.{ℕ}
 use mathlib.Core.Bool.{Bool, _&&_, _||_}
-use mathlib.Core.List.{List, [], _∷_, _++_}
+use mathlib.Core.List.{List, [], _++_}
 use lib.Dec.{eqb, leb}
 use lib.ListN.{length}
 use Rattle.units.specs.declared.Answer.{Answer}

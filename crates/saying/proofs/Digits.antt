@@ -1,15 +1,14 @@
 -- The digits that `io::decimal` writes are `decimalOf`'s, and they are at most twenty.
-use mathlib.Core.Path.{_≡_, refl, sym, ap, _∙_}
+use mathlib.Core.Path.{_≡_, refl}
 use mathlib.Core.List.{List, [], _∷_, _++_}
 use Prim.Native.Nat.{ℕ, zero, suc, _+_, _*_, _-_, _/_, _%_, _^_, _≤_, _<_}
 use native.Mathlib.Nat.{pow-le-pow-right}
 use native.Mathlib.Omega.{arith}
 use lib.Dec.{ltb}
-use lib.ListN.{length, length-append}
 use borrow.Author.Tests.{lt-ltb, le-ltb, ltb-true, ltb-false}
-use Rattle.io.specs.Digits.{digits, Fewest, glyph}
+use Rattle.io.specs.Digits.{digits, Fewest}
 use Rattle.logic.proofs.Choice.{both}
-use Rattle.saying.specs.Saying.{Said, numberMost, decimalFor, decimalOf}
+use Rattle.saying.specs.Saying.{Said, numberMost, digitOf, decimalFor, decimalOf}
 
 pos-pow : (k : ℕ) → 1 ≤ 10 ^ k
 pos-pow zero = omega arith
@@ -46,3 +45,30 @@ decimal-digits n (suc j) w h =
 -- What `io::decimal` wrote is said.
 pub number-said : {o l o′ : List ℕ} {at r : ℕ} (n k : ℕ) → Fewest 10 1 n k → n < 2 ^ 64 → l ≡ digits 10 k n → Said o at l r o′ → Said o at (decimalOf n) r o′
 number-said n k w h d s = rw (decimal-digits n k w h, ← d) s
+
+-- ---- the digits read back
+
+-- The number that digits are, after those of v.
+abbrev pub value : ℕ → List ℕ → ℕ
+value v [] = v
+value v (d ∷ t) = value (v * 10 + (d - 48)) t
+
+value-snoc : (v : ℕ) (l : List ℕ) (d : ℕ) → value v (l ++ (d ∷ [])) ≡ value v l * 10 + (d - 48)
+value-snoc v [] d = refl
+value-snoc v (b ∷ l) d = value-snoc (v * 10 + (b - 48)) l d
+
+reads : (k n : ℕ) → n < 10 ^ k → value 0 (decimalFor k n) ≡ n
+unfolding decimalFor
+reads zero n h = omega arith
+reads (suc k) n h =
+    both (ltb n 10)
+    (λ t. rw t (omega arith))
+    (λ f.
+    let g = ltb-false n 10 f in
+    let r = reads k (n / 10) (omega arith) in
+    rw (f, value-snoc 0 (decimalFor k (n / 10)) (digitOf (n % 10)), r) (omega arith))
+
+-- They are the number again.
+pub decimal-reads : (n : ℕ) → n < 2 ^ 64 → value 0 (decimalOf n) ≡ n
+unfolding decimalOf
+decimal-reads n h = reads numberMost n (omega arith)

@@ -1,7 +1,6 @@
 // Lines are put together in a buffer that the caller lends: each function here adds bytes after those that
 // the buffer holds, and answers how many it holds then. What a line says is decided by who calls; nothing
 // is written to a file here.
-ghost use mathlib.Core.Path.{_≡_};
 ghost use mathlib.Core.List.{_∷_, [], _++_};
 ghost use Prim.Native.Nat.{_+_, _≤_};
 ghost use lib.ListN.{length, replicate};
