@@ -1,10 +1,9 @@
--- What the program decides by itself: which entry it calls, which places of lists it writes, and the numbers that it is given.
-use Prim.Native.Nat.{ℕ, _+_, _*_, _-_, min}
+-- What the program decides by itself: which entry it calls, and which places of lists it writes.
+use Prim.Native.Nat.{ℕ}
 use mathlib.Core.Bool.{Bool, _&&_, not}
-use mathlib.Core.List.{List, [], _∷_}
-use lib.Dec.{eqb, leb}
+use mathlib.Core.List.{List}
+use lib.Dec.{eqb}
 use Rattle.units.specs.declared.Answer.{Answer}
-use Rattle.logic.specs.Choice.{pick}
 use Rattle.words.specs.Lists as words
 use Rattle.pieces.specs.Pieces.{breakApart, breakWords}
 use Rattle.pieces.specs.Lists as pieces
@@ -23,17 +22,3 @@ fresh n = eqb n 0xFFFFFFFF
 
 abbrev pub listed : ℕ → ℕ → ℕ → ℕ → Bool
 listed a b c d = not (((fresh a && fresh b) && fresh c) && fresh d)
-
--- The number of the digits at the start of a row of bytes, from n on; 99999 where it is larger.
-abbrev pub digit : ℕ → Bool
-digit b = leb 48 b && leb b 57
-
-abbrev pub worth : ℕ → ℕ
-worth b = b - 48
-
-abbrev pub withDigit : ℕ → ℕ → ℕ
-withDigit n d = min (n * 10 + d) 99999
-
-unfoldable pub decimal : ℕ → List ℕ → ℕ
-decimal n [] = n
-decimal n (b ∷ t) = pick (digit b) (decimal (withDigit n (worth b)) t) n

@@ -8,8 +8,6 @@
 // 60,000 unless it is given. For each text four entries are called; of each the numbers of document 01 are
 // written on a line (number, place, count), then a line for each word or piece (start, content end,
 // whitespace length, width). What a word is stands in the crates that are called.
-mod number;
-
 ghost use mathlib.Core.Path.{_≡_};
 ghost use Prim.Native.Nat.{_≤_, min};
 ghost use lib.ListN.{length};
@@ -281,7 +279,7 @@ fn argument(k: usize, absent: usize) -> usize
     if n == 0 {
         return absent;
     }
-    number::number_of(&digits[..n])
+    decimal::number_of(&digits[..n])
 }
 
 // A number of places that the lists have.
