@@ -27,7 +27,7 @@ misuseLine x word = wrongWords x ++ (word ++ (0x0A ∷ []))
 abbrev pub usageLines : List (List ℕ)
 usageLines =
     ascii "slip measure [FILE]              the columns of a text\n"
-    ∷ ascii "slip words [FILE]                its words: where each starts, and its columns\n"
+    ∷ ascii "slip words [FILE]                its words: start, end, spaces, columns, bytes\n"
     ∷ ascii "slip fill [WIDTH] [FILE]         the text, filled\n"
     ∷ ascii "slip show [WIDTH] [FILE]         the slip as printed, and what the printer drops\n"
     ∷ ascii "slip check [WIDTH] BEFORE AFTER  whether AFTER is BEFORE, well filled\n"

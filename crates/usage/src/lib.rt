@@ -59,7 +59,7 @@ pub fn usage_line(out: &mut [u8], k: usize) -> usize
         1 => say(
             out,
             0,
-            b"slip words [FILE]                its words: where each starts, and its columns\n",
+            b"slip words [FILE]                its words: start, end, spaces, columns, bytes\n",
         ),
         2 => say(
             out,
