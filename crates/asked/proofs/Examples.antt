@@ -4,22 +4,22 @@ use mathlib.Core.List.{List, [], ◌∷◌, ◌++◌}
 use Prim.Native.Nat.{ℕ}
 use Rattle.logic.specs.Count.{count}
 use Rattle.saying.specs.Ascii.{ascii}
-use Rattle.decimal.specs.Decimal.{decimal, allDigits, is_number}
+use Rattle.decimal.specs.Decimal.{decimal, all_digits, is_number}
 use Rattle.asked.specs.declared.Part.{Part}
 use Rattle.asked.specs.declared.File.TheVariants.{Input, Named}
 use Rattle.asked.specs.declared.Wrong.TheVariants.{NoCommand, NoSuchCommand, NotWidth, TooFew, TooMany, BothInput}
 use Rattle.asked.specs.declared.Plan.{Plan}
 use Rattle.asked.specs.declared.Plan.TheVariants.{Help, Measure, Fill, Show, Check, Misuse}
-use Rattle.asked.specs.Block.{end_at, after_of, nowhere, same, runsOver}
-use Rattle.asked.specs.Plan.{other_of, commandOf, fileAt, oneFileOf, oneWordOf, twoWordsOf, sizedOf, pair_of, triple_of, checkOf, plan_of}
+use Rattle.asked.specs.Block.{end_at, after_of, nowhere, same, runs_over}
+use Rattle.asked.specs.Plan.{other_of, command_of, file_at, one_file_of, one_word_of, two_words_of, sized_of, pair_of, triple_of, check_of, plan_of}
 
 -- Arguments as they come: each with a 0 after it.
 abbrev block : List (List ℕ) → List ℕ
 block [] = []
 block (w ∷ ws) = w ++ (0 ∷ block ws)
 
-abbrev from-to : ℕ → ℕ → Part
-from-to a b = record { start = a; end = b }
+abbrev from_to : ℕ → ℕ → Part
+from_to a b = record { start = a; end = b }
 
 -- What is asked for by some command lines,
 abbrev given : List Plan
@@ -42,18 +42,18 @@ given =
 -- and what that is.
 pub examples : given
     ≡ Measure Input
-    ∷ Fill 60 (Named (from-to 8 12))
-    ∷ Fill 42 (Named (from-to 5 9))
+    ∷ Fill 60 (Named (from_to 8 12))
+    ∷ Fill 42 (Named (from_to 5 9))
     ∷ Show 99999 Input
-    ∷ Check 42 Input (Named (from-to 8 13))
-    ∷ Check 3 (Named (from-to 8 12)) Input
+    ∷ Check 42 Input (Named (from_to 8 13))
+    ∷ Check 3 (Named (from_to 8 12)) Input
     ∷ Help
     ∷ Misuse NoCommand nowhere
-    ∷ Misuse NoSuchCommand (from-to 0 3)
-    ∷ Misuse NotWidth (from-to 5 9)
+    ∷ Misuse NoSuchCommand (from_to 0 3)
+    ∷ Misuse NotWidth (from_to 5 9)
     ∷ Misuse TooFew nowhere
-    ∷ Misuse TooMany (from-to 8 9)
-    ∷ Misuse BothInput (from-to 8 9)
+    ∷ Misuse TooMany (from_to 8 9)
+    ∷ Misuse BothInput (from_to 8 9)
     ∷ []
-unfolding count decimal allDigits is_number end_at after_of same runsOver other_of commandOf fileAt oneFileOf oneWordOf twoWordsOf sizedOf pair_of triple_of checkOf plan_of
+unfolding count decimal all_digits is_number end_at after_of same runs_over other_of command_of file_at one_file_of one_word_of two_words_of sized_of pair_of triple_of check_of plan_of
 examples = refl

@@ -33,10 +33,10 @@ same (a ∷ s) [] = false
 same (a ∷ s) (b ∷ t) = eqb a b && same s t
 
 -- How many bytes of a word are passed after one more byte: a 0 ends the word.
-abbrev pub runAfter : ℕ → ℕ → ℕ
-runAfter run b = pick (in_word b) (run + 1) 0
+abbrev pub run_after : ℕ → ℕ → ℕ
+run_after run b = pick (in_word b) (run + 1) 0
 
 -- A word has more than so many bytes, where `run` bytes of it are passed already.
-unfoldable pub runsOver : ℕ → ℕ → List ℕ → Bool
-runsOver most run [] = false
-runsOver most run (b ∷ t) = pick (ltb most (runAfter run b)) true (runsOver most (runAfter run b) t)
+unfoldable pub runs_over : ℕ → ℕ → List ℕ → Bool
+runs_over most run [] = false
+runs_over most run (b ∷ t) = pick (ltb most (run_after run b)) true (runs_over most (run_after run b) t)

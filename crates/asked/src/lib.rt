@@ -3,8 +3,8 @@
 // file is opened, and nothing is written.
 ghost use Rattle.std.specs.Prelude.{◌≡◌, ◌≤◌, length};
 ghost use Rattle.decimal.specs.Decimal.{decimal, is_number};
-ghost use Rattle.asked.specs.Block.{in_word, end_at, after_of, word_at, part_at, same, runAfter, runsOver};
-ghost use Rattle.asked.specs.Plan.{isHelp, commandOf, other_of, isInput, fileAt, oneFileOf, oneWordOf, twoWordsOf, sizedOf, pair_of, triple_of, checkOf, measuringOf, listingOf, fillingOf, showingOf, commandedOf, plan_of};
+ghost use Rattle.asked.specs.Block.{in_word, end_at, after_of, word_at, part_at, same, run_after, runs_over};
+ghost use Rattle.asked.specs.Plan.{is_help, command_of, other_of, is_input, file_at, one_file_of, one_word_of, two_words_of, sized_of, pair_of, triple_of, check_of, measuring_of, listing_of, filling_of, showing_of, commanded_of, plan_of};
 
 // The columns of the slip printer, where no width is given.
 pub const WIDTH: u32 = 42;
@@ -155,14 +155,14 @@ fn is_word(block: &[u8], at: usize, word: &[u8]) -> bool
 // How many bytes of a word are passed after one more byte.
 fn run_after(run: usize, b: u8) -> usize
     requires { run ≤ 4095 }
-    ensures { result ≡ runAfter run b }
+    ensures { result ≡ run_after run b }
 {
     if in_word(b) { run + 1 } else { 0 }
 }
 
 // Whether a word of the block has more bytes than an argument may.
 fn has_long(block: &[u8]) -> bool
-    ensures { result ≡ runsOver 4095 0 block.now }
+    ensures { result ≡ runs_over 4095 0 block.now }
 {
     let mut run = 0;
     let mut at = 0;
@@ -200,7 +200,7 @@ fn width_at(block: &[u8], at: usize) -> u32
 // Whether the word that starts at a place stands for standard input.
 fn is_input(block: &[u8], at: usize) -> bool
     requires { at ≤ length block.now }
-    ensures { result ≡ isInput block.now at }
+    ensures { result ≡ is_input block.now at }
 {
     is_word(block, at, b"-")
 }
@@ -208,7 +208,7 @@ fn is_input(block: &[u8], at: usize) -> bool
 // Where a text comes from, by the word that starts at a place.
 fn file_at(block: &[u8], at: usize) -> File
     requires { at ≤ length block.now }
-    ensures { result ≡ fileAt block.now at }
+    ensures { result ≡ file_at block.now at }
 {
     if is_input(block, at) {
         return File::Input;
@@ -218,14 +218,14 @@ fn file_at(block: &[u8], at: usize) -> File
 
 // Whether the first word asks for the help.
 fn is_help(block: &[u8]) -> bool
-    ensures { result ≡ isHelp (word_at block.now 0) }
+    ensures { result ≡ is_help (word_at block.now 0) }
 {
     is_word(block, 0, b"help") | is_word(block, 0, b"--help") | is_word(block, 0, b"-h")
 }
 
 // The command that the first word is,
 fn first_word(block: &[u8]) -> Command
-    ensures { result ≡ commandOf (word_at block.now 0) }
+    ensures { result ≡ command_of (word_at block.now 0) }
 {
     if is_word(block, 0, b"measure") {
         return Command::Measure;
@@ -259,7 +259,7 @@ fn other_word(block: &[u8]) -> Command
 
 // `[FILE]`, from a place on.
 fn one_file(block: &[u8], at: usize) -> OneFile
-    ensures { result ≡ oneFileOf block.now at }
+    ensures { result ≡ one_file_of block.now at }
 {
     if block.len() <= at {
         return OneFile::From(File::Input);
@@ -274,7 +274,7 @@ fn one_file(block: &[u8], at: usize) -> OneFile
 // One word where a width and a file may stand: a number is the width.
 fn one_word(block: &[u8], at: usize) -> Sized
     requires { at ≤ length block.now }
-    ensures { result ≡ oneWordOf block.now at }
+    ensures { result ≡ one_word_of block.now at }
 {
     if is_width(block, at) {
         return Sized::At(width_at(block, at), File::Input);
@@ -286,7 +286,7 @@ fn one_word(block: &[u8], at: usize) -> Sized
 fn two_words(block: &[u8], at: usize, second: usize) -> Sized
     requires at_in_bounds { at ≤ length block.now }
     requires second_in_bounds { second ≤ length block.now }
-    ensures { result ≡ twoWordsOf block.now at second }
+    ensures { result ≡ two_words_of block.now at second }
 {
     if is_width(block, at) {
         return Sized::At(width_at(block, at), file_at(block, second));
@@ -296,7 +296,7 @@ fn two_words(block: &[u8], at: usize, second: usize) -> Sized
 
 // `[WIDTH] [FILE]`, from a place on.
 fn width_and_file(block: &[u8], at: usize) -> Sized
-    ensures { result ≡ sizedOf block.now at }
+    ensures { result ≡ sized_of block.now at }
 {
     if block.len() <= at {
         return Sized::At(WIDTH, File::Input);
@@ -339,7 +339,7 @@ fn triple(block: &[u8], first: usize, second: usize, third: usize) -> Plan
 
 // `[WIDTH] BEFORE AFTER`, from a place on.
 fn checked(block: &[u8], first: usize) -> Plan
-    ensures { result ≡ checkOf block.now first }
+    ensures { result ≡ check_of block.now first }
 {
     if block.len() <= first {
         return Plan::Misuse(Wrong::TooFew, nowhere());
@@ -362,7 +362,7 @@ fn checked(block: &[u8], first: usize) -> Plan
 // ---- the plan
 
 fn measuring(one: OneFile) -> Plan
-    ensures { result ≡ measuringOf one }
+    ensures { result ≡ measuring_of one }
 {
     match one {
         OneFile::From(file) => Plan::Measure(file),
@@ -371,7 +371,7 @@ fn measuring(one: OneFile) -> Plan
 }
 
 fn listing(one: OneFile) -> Plan
-    ensures { result ≡ listingOf one }
+    ensures { result ≡ listing_of one }
 {
     match one {
         OneFile::From(file) => Plan::Words(file),
@@ -380,7 +380,7 @@ fn listing(one: OneFile) -> Plan
 }
 
 fn filling(given: Sized) -> Plan
-    ensures { result ≡ fillingOf given }
+    ensures { result ≡ filling_of given }
 {
     match given {
         Sized::At(width, file) => Plan::Fill(width, file),
@@ -389,7 +389,7 @@ fn filling(given: Sized) -> Plan
 }
 
 fn showing(given: Sized) -> Plan
-    ensures { result ≡ showingOf given }
+    ensures { result ≡ showing_of given }
 {
     match given {
         Sized::At(width, file) => Plan::Show(width, file),
@@ -399,7 +399,7 @@ fn showing(given: Sized) -> Plan
 
 // What a command asks for with the words after it, from a place on.
 fn commanded(block: &[u8], command: Command, at: usize) -> Plan
-    ensures { result ≡ commandedOf block.now command at }
+    ensures { result ≡ commanded_of block.now command at }
 {
     match command {
         Command::Help => Plan::Help,

@@ -22,17 +22,17 @@ unfoldable pub wrong : ℕ → ℕ → ℕ → ℕ → Bool
 wrong p q r b = xor (tail b) (due p q r) || narrow r b || never b
 
 -- The byte at i + 3 is wrong after the three before it, 0 standing past the end.
-abbrev pub wrongAt : List ℕ → ℕ → Bool
-wrongAt s i = wrong (get_or s i 0) (get_or s (i + 1) 0) (get_or s (i + 2) 0) (get_or s (i + 3) 0)
+abbrev pub wrong_at : List ℕ → ℕ → Bool
+wrong_at s i = wrong (get_or s i 0) (get_or s (i + 1) 0) (get_or s (i + 2) 0) (get_or s (i + 3) 0)
 
 -- A text with 0 before it, so that its first bytes have windows too.
 abbrev pub padded : List ℕ → List ℕ
 padded s = 0 ∷ 0 ∷ 0 ∷ s
 
 -- The byte at i is above 7F.
-abbrev pub highAt : List ℕ → ℕ → Bool
-highAt s i = leb 0x80 (get_or s i 0)
+abbrev pub high_at : List ℕ → ℕ → Bool
+high_at s i = leb 0x80 (get_or s i 0)
 
 -- None of the first n windows is wrong.
 pub record Clear (s : List ℕ) (n : ℕ) : Type 0 where
-  pub none : (i : ℕ) → i < n → wrongAt s i ≡ false
+  pub none : (i : ℕ) → i < n → wrong_at s i ≡ false

@@ -8,9 +8,9 @@
 ghost use Rattle.std.specs.Prelude.{◌≡◌, true, ◌+◌, ◌-◌, ◌≤◌, length, get_or};
 ghost use Rattle.logic.specs.Choice.{within};
 ghost use Rattle.logic.specs.Block.{any};
-ghost use Rattle.chars.specs.Utf8.{tail, utf8-2, utf8-3, utf8-4, point-2, point-3, point-4, readAt, Whole, checked};
-ghost use Rattle.chars.specs.Second.{secondLeast, secondMost, Lead};
-ghost use Rattle.chars.specs.Windows.{due, narrow, never, wrong, wrongAt, highAt, padded, Clear};
+ghost use Rattle.chars.specs.Utf8.{tail, utf8_2, utf8_3, utf8_4, point_2, point_3, point_4, read_at, Whole, checked};
+ghost use Rattle.chars.specs.Second.{second_least, second_most, Lead};
+ghost use Rattle.chars.specs.Windows.{due, narrow, never, wrong, wrong_at, high_at, padded, Clear};
 
 use units::Offset;
 
@@ -41,7 +41,7 @@ fn is_tail(b: u8) -> bool
 }
 
 fn is_two(a: u8, b: u8) -> bool
-    ensures { result ≡ utf8-2 a b }
+    ensures { result ≡ utf8_2 a b }
 {
     between(0xC2, 0xDF, a) & is_tail(b)
 }
@@ -50,7 +50,7 @@ fn is_two(a: u8, b: u8) -> bool
 // after E0 and F0, where a smaller one would be an overlong form, after ED, where a larger one would
 // be a surrogate, and after F4, where it would be above 10FFFF.
 fn second_least(a: u8) -> u8
-    ensures { result ≡ secondLeast a }
+    ensures { result ≡ second_least a }
 {
     if a == 0xE0 {
         0xA0
@@ -62,7 +62,7 @@ fn second_least(a: u8) -> u8
 }
 
 fn second_most(a: u8) -> u8
-    ensures { result ≡ secondMost a }
+    ensures { result ≡ second_most a }
 {
     if a == 0xED {
         0x9F
@@ -74,32 +74,32 @@ fn second_most(a: u8) -> u8
 }
 
 fn is_three(a: u8, b: u8, c: u8) -> bool
-    ensures { result ≡ utf8-3 a b c }
+    ensures { result ≡ utf8_3 a b c }
 {
     between(0xE0, 0xEF, a) & between(second_least(a), second_most(a), b) & is_tail(c)
 }
 
 fn is_four(a: u8, b: u8, c: u8, d: u8) -> bool
-    ensures { result ≡ utf8-4 a b c d }
+    ensures { result ≡ utf8_4 a b c d }
 {
     between(0xF0, 0xF4, a) & between(second_least(a), second_most(a), b) & is_tail(c) & is_tail(d)
 }
 
 // The code point of the bits that the RFC's table (section 3) marks x, of two, three and four bytes.
 fn point_2(a: u8, b: u8) -> u32
-    ensures { result ≡ point-2 a b }
+    ensures { result ≡ point_2 a b }
 {
     (a as u32) % 32 * 64 + (b as u32) % 64
 }
 
 fn point_3(a: u8, b: u8, c: u8) -> u32
-    ensures { result ≡ point-3 a b c }
+    ensures { result ≡ point_3 a b c }
 {
     (a as u32) % 16 * 4096 + (b as u32) % 64 * 64 + (c as u32) % 64
 }
 
 fn point_4(a: u8, b: u8, c: u8, d: u8) -> u32
-    ensures { result ≡ point-4 a b c d }
+    ensures { result ≡ point_4 a b c d }
 {
     (a as u32) % 8 * 262144 + (b as u32) % 64 * 4096 + (c as u32) % 64 * 64 + (d as u32) % 64
 }
@@ -114,7 +114,7 @@ fn byte_at(text: &[u8], i: usize) -> u8
 // The character at a place whose first byte is that of two, of three or of four bytes, or the fault there.
 fn read_two(text: &[u8], at: Offset) -> Read
     requires { Lead text.now at.0 0x80 0xDF }
-    ensures { result ≡ readAt text.now at.0 }
+    ensures { result ≡ read_at text.now at.0 }
 {
     let i = at.0;
     let a = text[i];
@@ -127,7 +127,7 @@ fn read_two(text: &[u8], at: Offset) -> Read
 
 fn read_three(text: &[u8], at: Offset) -> Read
     requires { Lead text.now at.0 0xE0 0xEF }
-    ensures { result ≡ readAt text.now at.0 }
+    ensures { result ≡ read_at text.now at.0 }
 {
     let i = at.0;
     let a = text[i];
@@ -141,7 +141,7 @@ fn read_three(text: &[u8], at: Offset) -> Read
 
 fn read_four(text: &[u8], at: Offset) -> Read
     requires { Lead text.now at.0 0xF0 0xFF }
-    ensures { result ≡ readAt text.now at.0 }
+    ensures { result ≡ read_at text.now at.0 }
 {
     let i = at.0;
     let a = text[i];
@@ -157,7 +157,7 @@ fn read_four(text: &[u8], at: Offset) -> Read
 // The character of several bytes at a place, or the fault there. The first byte tells how many there are.
 fn read_long(text: &[u8], at: Offset) -> Read
     requires { Lead text.now at.0 0x80 0xFF }
-    ensures { result ≡ readAt text.now at.0 }
+    ensures { result ≡ read_at text.now at.0 }
 {
     let i = at.0;
     let a = text[i];
@@ -172,7 +172,7 @@ fn read_long(text: &[u8], at: Offset) -> Read
 
 // The character that starts at a place. A byte below 80 is one by itself.
 pub fn read_char(text: &[u8], at: Offset) -> Read
-    ensures { result ≡ readAt text.now at.0 }
+    ensures { result ≡ read_at text.now at.0 }
 {
     let i = at.0;
     if text.len() <= i {
@@ -238,7 +238,7 @@ fn is_wrong(p: u8, q: u8, r: u8, b: u8) -> bool
 // their end, so that they are compiled to steps of 16 bytes.
 fn wrong_windows(text: &[u8], from: usize) -> bool
     requires { from + 67 ≤ length text.now }
-    ensures { result ≡ any (wrongAt text.now) from 64 }
+    ensures { result ≡ any (wrong_at text.now) from 64 }
 {
     let mut odd = false;
     let mut k = 0;
@@ -253,7 +253,7 @@ fn wrong_windows(text: &[u8], from: usize) -> bool
 // Whether one of the 67 bytes of these windows is above 7F. If none is, no window is wrong.
 fn high_block(text: &[u8], from: usize) -> bool
     requires { from + 67 ≤ length text.now }
-    ensures { result ≡ any (highAt text.now) from 67 }
+    ensures { result ≡ any (high_at text.now) from 67 }
 {
     let mut high = false;
     let mut k = 0;
@@ -267,7 +267,7 @@ fn high_block(text: &[u8], from: usize) -> bool
 // The same as `wrong_windows`, faster where all is below 80.
 fn wrong_block(text: &[u8], from: usize) -> bool
     requires { from + 67 ≤ length text.now }
-    ensures { result ≡ any (wrongAt text.now) from 64 }
+    ensures { result ≡ any (wrong_at text.now) from 64 }
 {
     if high_block(text, from) {
         wrong_windows(text, from)
@@ -293,7 +293,7 @@ fn clear_to(text: &[u8], last: usize) -> usize
 
 // The windows of the first three bytes, 0 standing before the text.
 fn wrong_start(text: &[u8]) -> bool
-    ensures { result ≡ any (wrongAt (padded text.now)) 0 3 }
+    ensures { result ≡ any (wrong_at (padded text.now)) 0 3 }
 {
     let a = byte_at(text, 0);
     let b = byte_at(text, 1);
@@ -304,7 +304,7 @@ fn wrong_start(text: &[u8]) -> bool
 // The window of the end: nothing is due there.
 fn wrong_end(text: &[u8]) -> bool
     requires { 3 ≤ length text.now }
-    ensures { result ≡ wrongAt text.now (length text.now - 3) }
+    ensures { result ≡ wrong_at text.now (length text.now - 3) }
 {
     let i = text.len() - 3;
     is_wrong(text[i], text[i + 1], text[i + 2], 0)

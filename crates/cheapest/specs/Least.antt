@@ -14,6 +14,6 @@ abbrev pub better : ℕ → ℕ → ℕ × ℕ → ℕ × ℕ
 better i v c = pick (ltb v c.1) (i, v) c
 
 -- The first index up to and including n at which f is least, and its value.
-unfoldable pub firstLeast : (ℕ → ℕ) → ℕ → ℕ × ℕ
-firstLeast f zero = (0, f 0)
-firstLeast f (suc n) = better (suc n) (f (suc n)) (firstLeast f n)
+unfoldable pub first_least : (ℕ → ℕ) → ℕ → ℕ × ℕ
+first_least f zero = (0, f 0)
+first_least f (suc n) = better (suc n) (f (suc n)) (first_least f n)

@@ -1,6 +1,6 @@
 -- The table of best costs and chosen starts: as what is asked of it, and as what computes it.
 use Rattle.std.specs.Prelude.{◌≡◌, List, [], ◌∷◌, ◌++◌, ℕ, zero, suc, ◌+◌, ◌≤◌, ◌<◌, get_or}
-use Rattle.cheapest.specs.Least.{Cheapest, firstLeast}
+use Rattle.cheapest.specs.Least.{Cheapest, first_least}
 use Rattle.cheapest.specs.Lines.{line_of}
 
 -- What stands at place k of a list, and 0 past its end.
@@ -23,7 +23,7 @@ joined t c = (t.0 ++ (c.1 ∷ []), t.1 ++ (c.0 ∷ []))
 
 -- Of the positions up to n, what position n + 1 chooses.
 unfoldable pub choice : (ℕ → ℕ → ℕ → ℕ) → ℕ → List ℕ × List ℕ → ℕ × ℕ
-choice q n t = firstLeast (via q (at t.0) (at t.1) (suc n)) n
+choice q n t = first_least (via q (at t.0) (at t.1) (suc n)) n
 
 abbrev pub grown : (ℕ → ℕ → ℕ → ℕ) → ℕ → List ℕ × List ℕ → List ℕ × List ℕ
 grown q n t = joined t (choice q n t)
@@ -33,8 +33,8 @@ unfoldable pub table_of : (ℕ → ℕ → ℕ → ℕ) → ℕ → List ℕ × 
 table_of q zero = (0 ∷ [], 0 ∷ [])
 table_of q (suc n) = grown q n (table_of q n)
 
-unfoldable pub bestCosts : (ℕ → ℕ → ℕ → ℕ) → ℕ → List ℕ
-bestCosts q n = (table_of q n).0
+unfoldable pub best_costs : (ℕ → ℕ → ℕ → ℕ) → ℕ → List ℕ
+best_costs q n = (table_of q n).0
 
-unfoldable pub chosenStarts : (ℕ → ℕ → ℕ → ℕ) → ℕ → List ℕ
-chosenStarts q n = (table_of q n).1
+unfoldable pub chosen_starts : (ℕ → ℕ → ℕ → ℕ) → ℕ → List ℕ
+chosen_starts q n = (table_of q n).1

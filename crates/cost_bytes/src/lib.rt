@@ -3,7 +3,7 @@
 // over at the end of a list is no number and is not touched.
 ghost use Rattle.std.specs.Prelude.{◌≡◌, ◌≤◌, min, length, take};
 ghost use Rattle.wire.specs.Wire.{numbers16};
-ghost use Rattle.cost_bytes.specs.Bytes.{LaidBytes, Begun, linesIn};
+ghost use Rattle.cost_bytes.specs.Bytes.{LaidBytes, Begun, lines_in};
 
 use fragments::Laid;
 use least_cost::{Admission, Penalties};
@@ -17,7 +17,7 @@ const POSITIONS: usize = 4097;
 
 // How many lines an answer has.
 fn lines_in(laid: Laid) -> usize
-    ensures { result ≡ linesIn laid }
+    ensures { result ≡ lines_in laid }
 {
     match laid {
         Laid::Lines(k) => k,

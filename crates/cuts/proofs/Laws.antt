@@ -10,82 +10,82 @@ use lib.ListN.{length, get_or, take, length-drop}
 use lib.Seq.{length-take-le}
 use borrow.Author.Tests.{eqb-true, lt-ltb, le-ltb, ltb-true, ltb-false}
 use Rattle.logic.proofs.Choice.{both}
-use Rattle.logic.proofs.Count.{run-passes}
-use Rattle.logic.proofs.Items.{items-each}
-use Rattle.chars.specs.Utf8.{Chr, decode, bytes, firstFault}
-use Rattle.chars.proofs.Laws.{fault-fits}
+use Rattle.logic.proofs.Count.{run_passes}
+use Rattle.logic.proofs.Items.{items_each}
+use Rattle.chars.specs.Utf8.{Chr, decode, bytes, first_fault}
+use Rattle.chars.proofs.Laws.{fault_fits}
 use Rattle.measure.specs.declared.Mode.TheVariants.{Text}
-use Rattle.first_fit.specs.Groupings.{lineWidth}
+use Rattle.first_fit.specs.Groupings.{line_width}
 use Rattle.words.specs.declared.Word.{Word}
-use Rattle.words.specs.Words.{space, contentEnd, white, afterWord, word_at, words}
-use Rattle.words.specs.Lists.{start_of, end_of, widthOfWord}
-use Rattle.words.proofs.Laws.{after-later, after-inside}
-use Rattle.lines.specs.Breaks.{columnsOf}
-use Rattle.pieces.specs.Pieces.{piece, rest, pieceEnd}
-use Rattle.pieces.proofs.Fitting.{leaving, fitting-leaving}
+use Rattle.words.specs.Words.{space, content_end, white, after_word, word_at, words}
+use Rattle.words.specs.Lists.{start_of, end_of, width_of_word}
+use Rattle.words.proofs.Laws.{after_later, after_inside}
+use Rattle.lines.specs.Breaks.{columns_of}
+use Rattle.pieces.specs.Pieces.{piece, rest, piece_end}
+use Rattle.pieces.proofs.Fitting.{leaving, fitting_leaving}
 use Rattle.cuts.specs.declared.Kept.{Kept}
 use Rattle.cuts.specs.declared.Cut.{Cut}
-use Rattle.cuts.specs.Cuts.{lineColumns, fitEnd, fitColumns, kept_to, nothing, cut_in, cutFrom, cut_of}
+use Rattle.cuts.specs.Cuts.{line_columns, fit_end, fit_columns, kept_to, nothing, cut_in, cut_from, cut_of}
 
 -- ---- what is kept fits
 
-in-fits : (width : ℕ) (s : List ℕ) (c : ℕ) (k : Kept) (x : Word) → k.columns.0 ≤ width → (cut_in width s c k x).kept.columns.0 ≤ width
+in_fits : (width : ℕ) (s : List ℕ) (c : ℕ) (k : Kept) (x : Word) → k.columns.0 ≤ width → (cut_in width s c k x).kept.columns.0 ≤ width
 unfolding cut_in
-in-fits width s c k x h =
-    both (ltb width (c + fitColumns (width - c) s x))
+in_fits width s c k x h =
+    both (ltb width (c + fit_columns (width - c) s x))
     (λ t. rw t h)
-    (λ f. rw f (ltb-false width (c + fitColumns (width - c) s x) f))
+    (λ f. rw f (ltb-false width (c + fit_columns (width - c) s x) f))
 
-from-fits : (width : ℕ) (s : List ℕ) (c : ℕ) (k : Kept) (xs : List Word) → k.columns.0 ≤ width → (cutFrom width s c k xs).kept.columns.0 ≤ width
-unfolding cutFrom
-from-fits width s c k [] h = h
-from-fits width s c k (x ∷ xs) h =
-    both (ltb width (c + widthOfWord x))
-    (λ t. rw t (in-fits width s c k x h))
-    (λ f. rw f (from-fits width s (c + columnsOf x) (kept_to c x) xs (ltb-false width (c + widthOfWord x) f)))
+from_fits : (width : ℕ) (s : List ℕ) (c : ℕ) (k : Kept) (xs : List Word) → k.columns.0 ≤ width → (cut_from width s c k xs).kept.columns.0 ≤ width
+unfolding cut_from
+from_fits width s c k [] h = h
+from_fits width s c k (x ∷ xs) h =
+    both (ltb width (c + width_of_word x))
+    (λ t. rw t (in_fits width s c k x h))
+    (λ f. rw f (from_fits width s (c + columns_of x) (kept_to c x) xs (ltb-false width (c + width_of_word x) f)))
 
 -- The kept part's columns are at most the width.
-pub kept-fits : (width : ℕ) (s : List ℕ) → (cut_of width s).kept.columns.0 ≤ width
+pub kept_fits : (width : ℕ) (s : List ℕ) → (cut_of width s).kept.columns.0 ≤ width
 unfolding cut_of
-kept-fits width s = from-fits width s 0 nothing (words s) (omega arith)
+kept_fits width s = from_fits width s 0 nothing (words s) (omega arith)
 
 -- ---- which lines are too wide
 
-in-wide : (width : ℕ) (s : List ℕ) (c : ℕ) (k : Kept) (x : Word) → (cut_in width s c k x).wide ≡ true
+in_wide : (width : ℕ) (s : List ℕ) (c : ℕ) (k : Kept) (x : Word) → (cut_in width s c k x).wide ≡ true
 unfolding cut_in
-in-wide width s c k x = both (ltb width (c + fitColumns (width - c) s x)) (λ t. rw t) (λ f. rw f)
+in_wide width s c k x = both (ltb width (c + fit_columns (width - c) s x)) (λ t. rw t) (λ f. rw f)
 
 -- Further words make a line no narrower.
-first-least : (x : Word) (xs : List Word) → widthOfWord x ≤ lineColumns (x ∷ xs)
-unfolding lineWidth
-first-least x [] = omega arith
-first-least x (y ∷ ys) = omega arith
+first_least_lem : (x : Word) (xs : List Word) → width_of_word x ≤ line_columns (x ∷ xs)
+unfolding line_width
+first_least_lem x [] = omega arith
+first_least_lem x (y ∷ ys) = omega arith
 
-from-wide : (width : ℕ) (s : List ℕ) (c : ℕ) (k : Kept) (x : Word) (xs : List Word) → (cutFrom width s c k (x ∷ xs)).wide ≡ ltb width (c + lineColumns (x ∷ xs))
-unfolding cutFrom lineWidth
-from-wide width s c k x [] = both (ltb width (c + widthOfWord x)) (λ t. rw t (in-wide width s c k x)) (λ f. rw f)
-from-wide width s c k x (y ∷ ys) =
-    both (ltb width (c + widthOfWord x))
+from_wide : (width : ℕ) (s : List ℕ) (c : ℕ) (k : Kept) (x : Word) (xs : List Word) → (cut_from width s c k (x ∷ xs)).wide ≡ ltb width (c + line_columns (x ∷ xs))
+unfolding cut_from line_width
+from_wide width s c k x [] = both (ltb width (c + width_of_word x)) (λ t. rw t (in_wide width s c k x)) (λ f. rw f)
+from_wide width s c k x (y ∷ ys) =
+    both (ltb width (c + width_of_word x))
     (λ t.
-    let l = ltb-true width (c + widthOfWord x) t in
-    rw t (in-wide width s c k x ∙ sym (lt-ltb width (c + (columnsOf x + lineColumns (y ∷ ys))) (omega arith))))
+    let l = ltb-true width (c + width_of_word x) t in
+    rw t (in_wide width s c k x ∙ sym (lt-ltb width (c + (columns_of x + line_columns (y ∷ ys))) (omega arith))))
     (λ f.
-    let n : c + columnsOf x + lineColumns (y ∷ ys) ≡ c + (columnsOf x + lineColumns (y ∷ ys)) = omega arith in
-    rw f (from-wide width s (c + columnsOf x) (kept_to c x) y ys ∙ ap (ltb width) n))
+    let n : c + columns_of x + line_columns (y ∷ ys) ≡ c + (columns_of x + line_columns (y ∷ ys)) = omega arith in
+    rw f (from_wide width s (c + columns_of x) (kept_to c x) y ys ∙ ap (ltb width) n))
 
-no_words : (width : ℕ) → false ≡ ltb width (lineColumns [])
-unfolding lineWidth
+no_words : (width : ℕ) → false ≡ ltb width (line_columns [])
+unfolding line_width
 no_words width = sym (le-ltb width 0 (omega arith))
 
-all-wide : (width : ℕ) (s : List ℕ) (xs : List Word) → (cutFrom width s 0 nothing xs).wide ≡ ltb width (lineColumns xs)
-unfolding cutFrom
-all-wide width s [] = no_words width
-all-wide width s (x ∷ xs) = from-wide width s 0 nothing x xs ∙ ap (ltb width) (zero-add (lineColumns (x ∷ xs)))
+all_wide : (width : ℕ) (s : List ℕ) (xs : List Word) → (cut_from width s 0 nothing xs).wide ≡ ltb width (line_columns xs)
+unfolding cut_from
+all_wide width s [] = no_words width
+all_wide width s (x ∷ xs) = from_wide width s 0 nothing x xs ∙ ap (ltb width) (zero-add (line_columns (x ∷ xs)))
 
 -- A line is too wide exactly if its columns exceed the width.
-pub wide_is : (width : ℕ) (s : List ℕ) → (cut_of width s).wide ≡ ltb width (lineColumns (words s))
+pub wide_is : (width : ℕ) (s : List ℕ) → (cut_of width s).wide ≡ ltb width (line_columns (words s))
 unfolding cut_of
-wide_is width s = all-wide width s (words s)
+wide_is width s = all_wide width s (words s)
 
 -- ---- what stands between
 
@@ -95,19 +95,19 @@ pub record Between (s : List ℕ) (c : Cut) : Type 0 where
   pub inside : c.dropped.0 ≤ length s
   pub spaces : (j : ℕ) → c.kept.end.0 ≤ j → j < c.dropped.0 → get_or s j 0 ≡ 0x20
 
-bytes-part : (xs ys : List Chr) → bytes xs ≤ bytes (xs ++ ys)
+bytes_part : (xs ys : List Chr) → bytes xs ≤ bytes (xs ++ ys)
 unfolding bytes
-bytes-part [] ys = omega arith
-bytes-part (x ∷ xs) ys = let h = bytes-part xs ys in omega arith
+bytes_part [] ys = omega arith
+bytes_part (x ∷ xs) ys = let h = bytes_part xs ys in omega arith
 
 -- What fits of a word ends in the word.
-fit-inside : (left : ℕ) (s : List ℕ) (x : Word) → start_of x ≤ end_of x → end_of x ≤ length s → fitEnd left s x ≤ length s
-unfolding pieceEnd firstFault
-fit-inside left s x p q =
+fit_inside : (left : ℕ) (s : List ℕ) (x : Word) → start_of x ≤ end_of x → end_of x ≤ length s → fit_end left s x ≤ length s
+unfolding piece_end first_fault
+fit_inside left s x p q =
     let t : List ℕ = rest s (end_of x) (start_of x) in
     let n : length t ≡ end_of x - start_of x = length-drop (start_of x) (take (end_of x) s) ∙ rw (length-take-le (end_of x) s q) in
-    let b = rw (fitting-leaving left 0 Text (decode t)) at (bytes-part (piece left (decode t)) (leaving left 0 Text (decode t))) in
-    omega (arith, n, b, fault-fits t)
+    let b = rw (fitting_leaving left 0 Text (decode t)) at (bytes_part (piece left (decode t)) (leaving left 0 Text (decode t))) in
+    omega (arith, n, b, fault_fits t)
 
 -- At a word's start, k being kept.
 record Spaced (s : List ℕ) (k : Kept) (i : ℕ) : Type 0 where
@@ -116,28 +116,28 @@ record Spaced (s : List ℕ) (k : Kept) (i : ℕ) : Type 0 where
   spaces : (j : ℕ) → k.end.0 ≤ j → j < i → get_or s j 0 ≡ 0x20
 
 in_between : (width : ℕ) (s : List ℕ) (c : ℕ) (k : Kept) (i : ℕ) → i < length s → Spaced s k i → Between s (cut_in width s c k (word_at s i))
-unfolding cut_in word_at afterWord contentEnd
+unfolding cut_in word_at after_word content_end
 in_between width s c k i l h =
-    both (ltb width (c + fitColumns (width - c) s (word_at s i)))
+    both (ltb width (c + fit_columns (width - c) s (word_at s i)))
     (λ t. rw t (record { order = h.order; inside = omega arith; spaces = h.spaces }))
-    (λ f. rw f (record { order = omega arith; inside = fit-inside (width - c) s (word_at s i) (omega arith) (omega (arith, after-inside s i (omega arith))); spaces = λ j a b. absurd (omega arith) }))
+    (λ f. rw f (record { order = omega arith; inside = fit_inside (width - c) s (word_at s i) (omega arith) (omega (arith, after_inside s i (omega arith))); spaces = λ j a b. absurd (omega arith) }))
 
-next-spaced : (s : List ℕ) (c i : ℕ) → i < length s → Spaced s (kept_to c (word_at s i)) (afterWord s i)
-unfolding word_at afterWord white
-next-spaced s c i l = record {
+next_spaced : (s : List ℕ) (c i : ℕ) → i < length s → Spaced s (kept_to c (word_at s i)) (after_word s i)
+unfolding word_at after_word white
+next_spaced s c i l = record {
   order = omega arith;
-  inside = omega (arith, after-inside s i (omega arith));
-  spaces = λ j a b. eqb-true (get_or s j 0) 0x20 (run-passes space s (contentEnd s i) j a b);
+  inside = omega (arith, after_inside s i (omega arith));
+  spaces = λ j a b. eqb-true (get_or s j 0) 0x20 (run_passes space s (content_end s i) j a b);
 }
 
 pub between : (width : ℕ) (s : List ℕ) → Between s (cut_of width s)
-unfolding cut_of cutFrom words
+unfolding cut_of cut_from words
 between width s =
-    items-each (word_at s) (afterWord s) (length s) (λ i. Unit) (λ i u l. (after-later s i l, tt))
-    (λ i xs. (c : ℕ) (k : Kept) → Spaced s k i → Between s (cutFrom width s c k xs))
+    items_each (word_at s) (after_word s) (length s) (λ i. Unit) (λ i u l. (after_later s i l, tt))
+    (λ i xs. (c : ℕ) (k : Kept) → Spaced s k i → Between s (cut_from width s c k xs))
     (λ i u l c k h. record { order = h.inside; inside = omega arith; spaces = λ j a b. h.spaces j a (omega arith) })
     (λ i xs u l q c k h.
-    both (ltb width (c + widthOfWord (word_at s i)))
+    both (ltb width (c + width_of_word (word_at s i)))
     (λ t. rw t (in_between width s c k i l h))
-    (λ f. rw f (q (c + columnsOf (word_at s i)) (kept_to c (word_at s i)) (next-spaced s c i l))))
+    (λ f. rw f (q (c + columns_of (word_at s i)) (kept_to c (word_at s i)) (next_spaced s c i l))))
     0 tt 0 nothing (record { order = omega arith; inside = omega arith; spaces = λ j a b. absurd (omega arith) })

@@ -2,7 +2,7 @@
 // made of words, and its columns are those of the words and of the whitespace between them, as the check
 // has them; a line of one word may be too wide too. Nothing here writes a line.
 ghost use Rattle.std.specs.Prelude.{◌≡◌, ◌-◌, ◌≤◌, ◌<◌, length, drop};
-ghost use Rattle.units.specs.Limits.{textMost};
+ghost use Rattle.units.specs.Limits.{text_most};
 ghost use Rattle.chars.specs.Utf8.{Whole};
 ghost use Rattle.words.specs.Words.{word_at};
 ghost use Rattle.words.specs.Lists.{end_of};
@@ -60,7 +60,7 @@ fn room(width: usize, columns: usize) -> usize
 // The cut at a word that passes the last column, the line having so many columns before it: after the
 // part of the word that still fits, or before the word where none does.
 fn cut_in(line: &[u8], columns: usize, kept: Kept, word: Word, width: usize) -> Cut
-    requires { (columns ≤ 1000000) × (length line.now ≤ textMost) × (end_of word ≤ length line.now) }
+    requires { (columns ≤ 1000000) × (length line.now ≤ text_most) × (end_of word ≤ length line.now) }
     ensures { result ≡ cut_in width line.now columns kept word }
 {
     let start = word.start;
@@ -87,7 +87,7 @@ fn cut_in(line: &[u8], columns: usize, kept: Kept, word: Word, width: usize) -> 
 
 // A line cut at a width.
 pub fn cut_of(line: &[u8], width: usize) -> Cut
-    requires { (length line.now ≤ textMost) × Whole line.now }
+    requires { (length line.now ≤ text_most) × Whole line.now }
     ensures { result ≡ cut_of width line.now }
 {
     let mut at = Offset(0);

@@ -9,17 +9,17 @@ digit b = leb 48 b && leb b 57
 abbrev pub worth : ℕ → ℕ
 worth b = b - 48
 
-abbrev pub withDigit : ℕ → ℕ → ℕ
-withDigit n d = min (n * 10 + d) 99999
+abbrev pub with_digit : ℕ → ℕ → ℕ
+with_digit n d = min (n * 10 + d) 99999
 
 unfoldable pub decimal : ℕ → List ℕ → ℕ
 decimal n [] = n
-decimal n (b ∷ t) = pick (digit b) (decimal (withDigit n (worth b)) t) n
+decimal n (b ∷ t) = pick (digit b) (decimal (with_digit n (worth b)) t) n
 
 -- A row of bytes is a number where it has a digit, and nothing else.
-unfoldable pub allDigits : List ℕ → Bool
-allDigits [] = true
-allDigits (b ∷ t) = pick (digit b) (allDigits t) false
+unfoldable pub all_digits : List ℕ → Bool
+all_digits [] = true
+all_digits (b ∷ t) = pick (digit b) (all_digits t) false
 
 unfoldable pub is_number : List ℕ → Bool
-is_number s = pick (eqb (length s) 0) false (allDigits s)
+is_number s = pick (eqb (length s) 0) false (all_digits s)

@@ -1,7 +1,7 @@
 // Numbers as people write them: whether a row of bytes is one, and which. What a number counts is not
 // known here; one that is larger than any bound of document 01 stands for all that are.
 ghost use Rattle.std.specs.Prelude.{◌≡◌, ◌≤◌};
-ghost use Rattle.decimal.specs.Decimal.{digit, worth, withDigit, decimal, is_number};
+ghost use Rattle.decimal.specs.Decimal.{digit, worth, with_digit, decimal, is_number};
 
 // A larger number counts as this one.
 pub const MOST: usize = 99999;
@@ -16,7 +16,7 @@ fn is_digit(b: u8) -> bool
 fn with_digit(n: usize, d: usize) -> usize
     requires n_bound { n ≤ 99999 }
     requires d_bound { d ≤ 255 }
-    ensures value { result ≡ withDigit n d }
+    ensures value { result ≡ with_digit n d }
     ensures upper_bound { result ≤ 99999 }
 {
     let sum = n * 10 + d;

@@ -2,10 +2,10 @@
 // `fill.rs`: `fill_inplace` has its name there. One pass over the words of each input line, no lists, and
 // nothing copied. Which words there are and where first fit starts a line is said in `lines`.
 ghost use Rattle.std.specs.Prelude.{◌≡◌, ◌≤◌, length};
-ghost use Rattle.units.specs.Limits.{textMost};
+ghost use Rattle.units.specs.Limits.{text_most};
 ghost use Rattle.chars.specs.Utf8.{Whole};
-ghost use Rattle.lines.specs.Breaks.{breaks, textBreaks, broken, filled};
-ghost use Rattle.fill.specs.Fill.{fillOf, leaves, answer_of};
+ghost use Rattle.lines.specs.Breaks.{breaks, text_breaks, broken, filled};
+ghost use Rattle.fill.specs.Fill.{fill_of, leaves, answer_of};
 
 use chars::Checked;
 use lines::NEWLINE;
@@ -23,7 +23,7 @@ pub enum Filled {
 
 // Fills the body of one input line, and counts the bytes changed.
 fn fill_line(line: &mut [u8], width: usize) -> usize
-    requires { (length line.old ≤ textMost) × Whole line.old }
+    requires { (length line.old ≤ text_most) × Whole line.old }
     ensures value { result ≡ length (breaks width line.old) }
     ensures line_after { line.new ≡ broken line.old (breaks width line.old) }
 {
@@ -49,8 +49,8 @@ fn fill_line(line: &mut [u8], width: usize) -> usize
 
 // Fills every input line of a text, and counts the bytes changed.
 fn fill_lines(text: &mut [u8], width: usize) -> usize
-    requires { (length text.old ≤ textMost) × Whole text.old }
-    ensures value { result ≡ length (textBreaks width text.old) }
+    requires { (length text.old ≤ text_most) × Whole text.old }
+    ensures value { result ≡ length (text_breaks width text.old) }
     ensures text_after { text.new ≡ filled width text.old }
 {
     let mut from = 0;
@@ -67,7 +67,7 @@ fn fill_lines(text: &mut [u8], width: usize) -> usize
 // Fills a text at a width and answers how many bytes that changed; or refusal 1, 2 or 3, the text as it
 // was.
 pub fn fill_inplace(text: &mut [u8], width: u32) -> Filled
-    ensures value { result ≡ fillOf width text.old }
+    ensures value { result ≡ fill_of width text.old }
     ensures text_after { text.new ≡ leaves result width text.old }
 {
     if TEXT_MOST < text.len() {

@@ -10,10 +10,10 @@ flags starts step l [] = []
 flags starts step l (f ∷ r) = starts l f ∷ flags starts step (step l f) r
 
 -- "The answer is one end index per line": the ends of the lines, the first flag being that of fragment i.
-unfoldable pub endsFrom : ℕ → List Bool → List ℕ
-endsFrom i [] = i ∷ []
-endsFrom i (true ∷ b) = i ∷ endsFrom (suc i) b
-endsFrom i (false ∷ b) = endsFrom (suc i) b
+unfoldable pub ends_from : ℕ → List Bool → List ℕ
+ends_from i [] = i ∷ []
+ends_from i (true ∷ b) = i ∷ ends_from (suc i) b
+ends_from i (false ∷ b) = ends_from (suc i) b
 
 -- The line that is being filled: its number, and the width of its fragments, each with its whitespace.
 pub record Line : Type 0 where
@@ -34,6 +34,6 @@ abbrev pub begun : Fragment → Line
 begun f = record { number = 0; columns = f.word + f.white }
 
 -- The ends of all lines. "No fragments give one empty line with end 0".
-unfoldable pub lineEnds : List ℕ → List Fragment → List ℕ
-lineEnds widths [] = 0 ∷ []
-lineEnds widths (f ∷ r) = endsFrom 1 (flags (starts widths) (step widths) (begun f) r)
+unfoldable pub line_ends : List ℕ → List Fragment → List ℕ
+line_ends widths [] = 0 ∷ []
+line_ends widths (f ∷ r) = ends_from 1 (flags (starts widths) (step widths) (begun f) r)

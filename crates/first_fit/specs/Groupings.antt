@@ -5,16 +5,16 @@ use Rattle.fragments.specs.Fragments.{Fragment}
 use Rattle.first_fit.specs.FirstFit.{flags}
 
 -- "Line width in fill and check is the sum of word widths and of the whitespace between words"
-unfoldable pub lineWidth : List Fragment → ℕ
-lineWidth [] = 0
-lineWidth (f ∷ []) = f.word
-lineWidth (f ∷ g ∷ r) = f.word + f.white + lineWidth (g ∷ r)
+unfoldable pub line_width : List Fragment → ℕ
+line_width [] = 0
+line_width (f ∷ []) = f.word
+line_width (f ∷ g ∷ r) = f.word + f.white + line_width (g ∷ r)
 
 -- "lines of one word or of fitting width"
 unfoldable pub Good : ℕ → List Fragment → Type 0
 Good w [] = ⊥
 Good w (f ∷ []) = Unit {0}
-Good w (f ∷ g ∷ r) = lineWidth (f ∷ g ∷ r) ≤ w
+Good w (f ∷ g ∷ r) = line_width (f ∷ g ∷ r) ≤ w
 
 unfoldable pub AllGood : ℕ → List (List Fragment) → Type 0
 AllGood w [] = Unit {0}
@@ -30,14 +30,14 @@ pub record Grouping (w : ℕ) (words : List Fragment) (lines : List (List Fragme
   pub good : AllGood w lines
 
 -- First fit at one width, from the columns that the line has already.
-abbrev pub tooWide : ℕ → ℕ → Fragment → Bool
-tooWide w c f = ltb w (c + f.word)
+abbrev pub too_wide : ℕ → ℕ → Fragment → Bool
+too_wide w c f = ltb w (c + f.word)
 
-abbrev pub columnsAfter : ℕ → ℕ → Fragment → ℕ
-columnsAfter w c f = pick (tooWide w c f) (f.word + f.white) (c + (f.word + f.white))
+abbrev pub columns_after : ℕ → ℕ → Fragment → ℕ
+columns_after w c f = pick (too_wide w c f) (f.word + f.white) (c + (f.word + f.white))
 
 abbrev pub fit : ℕ → ℕ → List Fragment → List Bool
-fit w c r = flags (tooWide w) (columnsAfter w) c r
+fit w c r = flags (too_wide w) (columns_after w) c r
 
 -- How many lines the flags start.
 unfoldable pub started : List Bool → ℕ
@@ -46,9 +46,9 @@ started (true ∷ b) = suc (started b)
 started (false ∷ b) = started b
 
 -- How many lines first fit makes of an input line's words. "An input line without words has one line."
-unfoldable pub lineCount : ℕ → List Fragment → ℕ
-lineCount w [] = 1
-lineCount w (f ∷ r) = suc (started (fit w (f.word + f.white) r))
+unfoldable pub line_count : ℕ → List Fragment → ℕ
+line_count w [] = 1
+line_count w (f ∷ r) = suc (started (fit w (f.word + f.white) r))
 
 -- What flags make of the words after a line's first: the rest of that line, and the other lines.
 unfoldable pub cut : List Fragment → List Bool → List Fragment × List (List Fragment)

@@ -4,8 +4,8 @@
 ghost use Rattle.std.specs.Prelude.{◌≡◌, ◌+◌, ◌≤◌, ◌<◌, ltb, length};
 ghost use Rattle.std.proofs.lemmas.List.Edits.{sets};
 ghost use Rattle.fragments.specs.Fragments.{fragments};
-ghost use Rattle.first_fit.specs.FirstFit.{lineEnds};
-ghost use Rattle.first_fit.specs.Entry.{Lists, firstFitOf, Lays};
+ghost use Rattle.first_fit.specs.FirstFit.{line_ends};
+ghost use Rattle.first_fit.specs.Entry.{Lists, first_fit_of, Lays};
 
 use fragments::{Laid, Tested};
 use units::{FragmentIndex, WIDTH_MOST};
@@ -21,8 +21,8 @@ pub fn starts_line(width: usize, columns: usize, word: usize, penalty: usize) ->
 // Stores the ends of the lines of one or more fragments, and answers how many lines there are.
 fn lay(words: &[u16], whites: &[u16], penalties: &[u16], widths: &[u16], ends: &mut [u16]) -> usize
     requires { Lists words.now whites.now penalties.now (length ends.old) × (0 < length words.now) }
-    ensures value { result ≡ length (lineEnds widths.now (fragments words.now whites.now penalties.now)) }
-    ensures ends_after { ends.new ≡ sets ends.old 0 (lineEnds widths.now (fragments words.now whites.now penalties.now)) }
+    ensures value { result ≡ length (line_ends widths.now (fragments words.now whites.now penalties.now)) }
+    ensures ends_after { ends.new ≡ sets ends.old 0 (line_ends widths.now (fragments words.now whites.now penalties.now)) }
 {
     let mut columns = fragments::number_at(words, 0) + fragments::number_at(whites, 0);
     let mut width = fragments::width_of(widths, 0);
@@ -54,8 +54,8 @@ pub fn wrap_first_fit(
     widths: &[u16],
     ends: &mut [u16],
 ) -> Laid
-    ensures value { result ≡ firstFitOf words.now whites.now penalties.now widths.now (length ends.old) }
-    ensures ends_after { ends.new ≡ Lays result (lineEnds widths.now (fragments words.now whites.now penalties.now)) ends.old }
+    ensures value { result ≡ first_fit_of words.now whites.now penalties.now widths.now (length ends.old) }
+    ensures ends_after { ends.new ≡ Lays result (line_ends widths.now (fragments words.now whites.now penalties.now)) ends.old }
 {
     let n = words.len();
     let wide = fragments::first_above(widths, WIDTH_MOST as usize);

@@ -2,7 +2,7 @@
 // stand before any layout, the width of a line by its number, and the answer in document 01's numbers.
 // Nothing here lays fragments out.
 ghost use Rattle.std.specs.Prelude.{◌≡◌, ◌≤◌, ◌<◌, max, length, get_or, set};
-ghost use Rattle.fragments.specs.Lists.{firstAbove, width_of, tested_of};
+ghost use Rattle.fragments.specs.Lists.{first_above, width_of, tested_of};
 ghost use Rattle.fragments.specs.Answers.{answer_of};
 
 use units::{Answer, FRAGMENTS_MOST, FragmentIndex};
@@ -41,7 +41,7 @@ pub fn number_at(list: &[u16], i: usize) -> usize
 
 // The index of the first number above a bound, or the length of the list.
 pub fn first_above(list: &[u16], most: usize) -> usize
-    ensures { result ≡ firstAbove most list.now }
+    ensures { result ≡ first_above most list.now }
 {
     let mut i = 0;
     while i < list.len() {

@@ -9,22 +9,22 @@ use lib.Dec.{eqb}
 use lib.ListN.{length}
 use borrow.Author.Tests.{lt-ltb, le-ltb, eq-eqb, ne_eqb}
 use Rattle.units.specs.declared.Answer.{Answer}
-use Rattle.units.specs.Limits.{textMost, widthMost}
+use Rattle.units.specs.Limits.{text_most, width_most}
 use Rattle.units.specs.Answers.{success, refusal}
 use Rattle.logic.specs.Choice.{pick}
-use Rattle.chars.specs.Utf8.{firstFault, Whole}
+use Rattle.chars.specs.Utf8.{first_fault, Whole}
 use Rattle.lines.specs.Breaks.{filled}
 use Rattle.judge.specs.declared.Judged.{Judged}
 use Rattle.judge.specs.declared.Judged.TheVariants.{Accepted, TooLong, NotUtf8, TooWide, Lengths, BadChange, WideLine, ManyLines}
-use Rattle.judge.specs.Judge.{changesOf, judgeOf, answer_of}
+use Rattle.judge.specs.Judge.{changes_of, judge_of, answer_of}
 use Rattle.judge.specs.Demand.{Limits, AcceptedText, BadAt, WideLineAt, ManyLinesAt}
 use Rattle.judge.proofs.Accepting.{accepts}
-use Rattle.judge.proofs.Filled.{filled-accepted}
-use Rattle.judge.proofs.Refusing.{says-bad, says-wide, says-many, bad-said, wide-said, many-said}
+use Rattle.judge.proofs.Filled.{filled_accepted}
+use Rattle.judge.proofs.Refusing.{says_bad, says_wide, says_many, bad_said, wide_said, many_said}
 
 -- Each answer has numbers of its own, so that what is said of the numbers is said of the answer.
-judgedOf : Answer → Judged
-judgedOf a =
+judged_of : Answer → Judged
+judged_of a =
     pick (eqb a.number 0) Accepted
     (pick (eqb a.number 1) (TooLong (record { 0 = a.place }))
     (pick (eqb a.number 2) (NotUtf8 (record { 0 = a.place }))
@@ -34,8 +34,8 @@ judgedOf a =
     (pick (eqb a.number 11) (WideLine (record { 0 = a.place }))
     (ManyLines (record { 0 = a.place }))))))))
 
-told_back : (j : Judged) → judgedOf (answer_of j) ≡ j
-unfolding judgedOf answer_of
+told_back : (j : Judged) → judged_of (answer_of j) ≡ j
+unfolding judged_of answer_of
 told_back Accepted = refl
 told_back (TooLong l) = refl
 told_back (NotUtf8 o) = refl
@@ -46,69 +46,69 @@ told_back (WideLine o) = refl
 told_back (ManyLines o) = refl
 
 told : (j k : Judged) → answer_of j ≡ answer_of k → j ≡ k
-told j k e = sym (told_back j) ∙ ap judgedOf e ∙ told_back k
+told j k e = sym (told_back j) ∙ ap judged_of e ∙ told_back k
 
 -- The check accepts exactly if the text before and the width are within the limits and: lengths agree; each changed byte was the last space before a further word of its input line and is now a newline; each
 -- line so formed holds one word or fits; and no other grouping of an input line's words has fewer lines.
-pub check-accepts : (width : ℕ) (before after : List ℕ) → (answer_of (judgeOf width before after) ≡ success 0) ↔ (Limits width before × AcceptedText width before after)
+pub check_accepts : (width : ℕ) (before after : List ℕ) → (answer_of (judge_of width before after) ≡ success 0) ↔ (Limits width before × AcceptedText width before after)
 unfolding answer_of
-check-accepts width before after =
+check_accepts width before after =
     let a = accepts width before after in
-    (λ e. a.0 (told (judgeOf width before after) Accepted e), λ h. ap answer_of (a.1 h))
+    (λ e. a.0 (told (judge_of width before after) Accepted e), λ h. ap answer_of (a.1 h))
 
 -- "Whatever the in-place fill writes at that width is accepted against the text it was given."
-pub check-filled : (width : ℕ) (text : List ℕ) → Limits width text → answer_of (judgeOf width text (filled width text)) ≡ success 0
-check-filled width text limits = (check-accepts width text (filled width text)).1 (limits, filled-accepted width text)
+pub check_filled : (width : ℕ) (text : List ℕ) → Limits width text → answer_of (judge_of width text (filled width text)) ≡ success 0
+check_filled width text limits = (check_accepts width text (filled width text)).1 (limits, filled_accepted width text)
 
 module _ (width : ℕ) (before after : List ℕ) where
   -- "a text exceeds 60,000 bytes | its length": the text before, then the text after.
-  pub check-too-long : textMost < length before → answer_of (judgeOf width before after) ≡ refusal 1 (length before)
-  unfolding judgeOf answer_of
-  check-too-long h = rw (lt-ltb textMost (length before) h)
+  pub check_too_long : text_most < length before → answer_of (judge_of width before after) ≡ refusal 1 (length before)
+  unfolding judge_of answer_of
+  check_too_long h = rw (lt-ltb text_most (length before) h)
 
-  module _ (h : length before ≤ textMost) where
-    pub check-after-too-long : textMost < length after → answer_of (judgeOf width before after) ≡ refusal 1 (length after)
-    unfolding judgeOf answer_of
-    check-after-too-long g = rw (le-ltb textMost (length before) h, lt-ltb textMost (length after) g)
+  module _ (h : length before ≤ text_most) where
+    pub check_after_too_long : text_most < length after → answer_of (judge_of width before after) ≡ refusal 1 (length after)
+    unfolding judge_of answer_of
+    check_after_too_long g = rw (le-ltb text_most (length before) h, lt-ltb text_most (length after) g)
 
-    module _ (g : length after ≤ textMost) where
+    module _ (g : length after ≤ text_most) where
       -- "the text is not UTF-8", the text before.
-      pub check-not-utf8 : firstFault before < length before → answer_of (judgeOf width before after) ≡ refusal 2 (firstFault before)
-      unfolding judgeOf answer_of
-      check-not-utf8 f = rw (le-ltb textMost (length before) h, le-ltb textMost (length after) g, lt-ltb (firstFault before) (length before) f)
+      pub check_not_utf8 : first_fault before < length before → answer_of (judge_of width before after) ≡ refusal 2 (first_fault before)
+      unfolding judge_of answer_of
+      check_not_utf8 f = rw (le-ltb text_most (length before) h, le-ltb text_most (length after) g, lt-ltb (first_fault before) (length before) f)
 
       module _ (f : Whole before) where
         -- "a line width exceeds 255 | .. 0 for a single width"
-        pub check-too-wide : widthMost < width → answer_of (judgeOf width before after) ≡ refusal 3 0
-        unfolding judgeOf answer_of
-        check-too-wide w = rw (le-ltb textMost (length before) h, le-ltb textMost (length after) g, le-ltb (firstFault before) (length before) (omega (arith, f)), lt-ltb widthMost width w)
+        pub check_too_wide : width_most < width → answer_of (judge_of width before after) ≡ refusal 3 0
+        unfolding judge_of answer_of
+        check_too_wide w = rw (le-ltb text_most (length before) h, le-ltb text_most (length after) g, le-ltb (first_fault before) (length before) (omega (arith, f)), lt-ltb width_most width w)
 
-        module _ (w : width ≤ widthMost) where
+        module _ (w : width ≤ width_most) where
           -- "check: the two texts differ in length"
-          pub check-lengths : (length after ≡ length before → ⊥) → answer_of (judgeOf width before after) ≡ refusal 9 0
-          unfolding judgeOf answer_of
-          check-lengths d = rw (le-ltb textMost (length before) h, le-ltb textMost (length after) g, le-ltb (firstFault before) (length before) (omega (arith, f)), le-ltb widthMost width w, ne_eqb (length after) (length before) d)
+          pub check_lengths : (length after ≡ length before → ⊥) → answer_of (judge_of width before after) ≡ refusal 9 0
+          unfolding judge_of answer_of
+          check_lengths d = rw (le-ltb text_most (length before) h, le-ltb text_most (length after) g, le-ltb (first_fault before) (length before) (omega (arith, f)), le-ltb width_most width w, ne_eqb (length after) (length before) d)
 
           -- Where the lengths agree, it is the changes and then the lines that decide.
-          check-changes : length after ≡ length before → judgeOf width before after ≡ changesOf width before after
-          unfolding judgeOf
-          check-changes e = rw (le-ltb textMost (length before) h, le-ltb textMost (length after) g, le-ltb (firstFault before) (length before) (omega (arith, f)), le-ltb widthMost width w, eq-eqb (length after) (length before) e)
+          check_changes : length after ≡ length before → judge_of width before after ≡ changes_of width before after
+          unfolding judge_of
+          check_changes e = rw (le-ltb text_most (length before) h, le-ltb text_most (length after) g, le-ltb (first_fault before) (length before) (omega (arith, f)), le-ltb width_most width w, eq-eqb (length after) (length before) e)
 
           module _ (e : length after ≡ length before) where
             -- 10, "some change is not an allowed break | first such byte": the byte is changed and no allowed break, and each byte before it is the same or one.
-            pub check-bad-change : (p : ℕ) → (answer_of (judgeOf width before after) ≡ refusal 10 p) ↔ BadAt before after p
+            pub check_bad_change : (p : ℕ) → (answer_of (judge_of width before after) ≡ refusal 10 p) ↔ BadAt before after p
             unfolding answer_of
-            check-bad-change p =
-                (λ a. says-bad width before after e (sym (check-changes e) ∙ told (judgeOf width before after) (BadChange (record { 0 = p })) a), λ h. ap answer_of (check-changes e ∙ bad-said width before after e h))
+            check_bad_change p =
+                (λ a. says_bad width before after e (sym (check_changes e) ∙ told (judge_of width before after) (BadChange (record { 0 = p })) a), λ h. ap answer_of (check_changes e ∙ bad_said width before after e h))
 
             -- 11, "a line of two or more words is too wide | first byte of the first such line": none of an earlier input line is, and none before it in its own.
-            pub check-wide-line : (p : ℕ) → (answer_of (judgeOf width before after) ≡ refusal 11 p) ↔ WideLineAt width before after p
+            pub check_wide_line : (p : ℕ) → (answer_of (judge_of width before after) ≡ refusal 11 p) ↔ WideLineAt width before after p
             unfolding answer_of
-            check-wide-line p =
-                (λ a. says-wide width before after e (sym (check-changes e) ∙ told (judgeOf width before after) (WideLine (record { 0 = p })) a), λ h. ap answer_of (check-changes e ∙ wide-said width before after e h))
+            check_wide_line p =
+                (λ a. says_wide width before after e (sym (check_changes e) ∙ told (judge_of width before after) (WideLine (record { 0 = p })) a), λ h. ap answer_of (check_changes e ∙ wide_said width before after e h))
 
             -- 12, "an input line has more lines than needed | first byte of the first such input line": a grouping of its words has fewer, and no earlier input line has one.
-            pub check-many-lines : (p : ℕ) → (answer_of (judgeOf width before after) ≡ refusal 12 p) ↔ ManyLinesAt width before after p
+            pub check_many_lines : (p : ℕ) → (answer_of (judge_of width before after) ≡ refusal 12 p) ↔ ManyLinesAt width before after p
             unfolding answer_of
-            check-many-lines p =
-                (λ a. says-many width before after e (sym (check-changes e) ∙ told (judgeOf width before after) (ManyLines (record { 0 = p })) a), λ h. ap answer_of (check-changes e ∙ many-said width before after e h))
+            check_many_lines p =
+                (λ a. says_many width before after e (sym (check_changes e) ∙ told (judge_of width before after) (ManyLines (record { 0 = p })) a), λ h. ap answer_of (check_changes e ∙ many_said width before after e h))

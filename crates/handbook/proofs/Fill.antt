@@ -5,52 +5,52 @@ use Prim.Native.Nat.{ℕ, suc, ◌≤◌, ◌<◌, max}
 use native.Mathlib.Omega.{arith}
 use lib.ListN.{length, get_or}
 use borrow.Author.Tests.{lt-ltb, le-ltb}
-use Rattle.units.specs.Limits.{textMost, widthMost}
+use Rattle.units.specs.Limits.{text_most, width_most}
 use Rattle.units.specs.Answers.{success, refusal}
 use Rattle.logic.specs.Member.{◌∈◌}
-use Rattle.chars.specs.Utf8.{firstFault, Whole}
+use Rattle.chars.specs.Utf8.{first_fault, Whole}
 use Rattle.fragments.specs.Fragments.{Fragment}
 use Rattle.first_fit.specs.Groupings.{Grouping, fit, lines}
-use Rattle.first_fit.proofs.Groupings.{count-met}
+use Rattle.first_fit.proofs.Groupings.{count_met}
 use Rattle.words.specs.declared.Word.{Word}
 use Rattle.words.specs.Words.{words}
-use Rattle.lines.specs.Breaks.{fragmentOf, columnsOf, places, breaksOf, breaks, textBreaks, broken, filled}
+use Rattle.lines.specs.Breaks.{fragment_of, columns_of, places, breaks_of, breaks, text_breaks, broken, filled}
 use Rattle.lines.specs.Allowed.{AllowedBreak}
-use Rattle.lines.proofs.Breaking.{broken-length}
-use Rattle.lines.proofs.Rising.{differences, broken-other, broken-there}
-use Rattle.lines.proofs.Allowed.{break-allowed, breaks-counted}
-use Rattle.lines.proofs.Fewest.{breaks-lines, breaks-least, breaks-wider}
-use Rattle.fill.specs.Fill.{fillOf, leaves, answer_of}
-use Rattle.fill.proofs.Again.{again-none}
-use Rattle.fill.proofs.Kept.{filled-whole}
+use Rattle.lines.proofs.Breaking.{broken_length}
+use Rattle.lines.proofs.Rising.{differences, broken_other, broken_there}
+use Rattle.lines.proofs.Allowed.{break_allowed, breaks_counted}
+use Rattle.lines.proofs.Fewest.{breaks_lines, breaks_least, breaks_wider}
+use Rattle.fill.specs.Fill.{fill_of, leaves, answer_of}
+use Rattle.fill.proofs.Again.{again_none}
+use Rattle.fill.proofs.Kept.{filled_whole}
 
 -- ---- success and refusals, each with the text after it
 
 module _ (width : ℕ) (s : List ℕ) where
-  pub fill-too-long : textMost < length s → (answer_of (fillOf width s) ≡ refusal 1 (length s)) × (leaves (fillOf width s) width s ≡ s)
-  unfolding fillOf answer_of
-  fill-too-long l = let t = lt-ltb textMost (length s) l in (rw t, rw t)
+  pub fill_too_long : text_most < length s → (answer_of (fill_of width s) ≡ refusal 1 (length s)) × (leaves (fill_of width s) width s ≡ s)
+  unfolding fill_of answer_of
+  fill_too_long l = let t = lt-ltb text_most (length s) l in (rw t, rw t)
 
-  module _ (l : length s ≤ textMost) where
-    pub fill-not-utf8 : firstFault s < length s → (answer_of (fillOf width s) ≡ refusal 2 (firstFault s)) × (leaves (fillOf width s) width s ≡ s)
-    unfolding fillOf answer_of
-    fill-not-utf8 h = let t = le-ltb textMost (length s) l in let u = lt-ltb (firstFault s) (length s) h in (rw (t, u), rw (t, u))
+  module _ (l : length s ≤ text_most) where
+    pub fill_not_utf8 : first_fault s < length s → (answer_of (fill_of width s) ≡ refusal 2 (first_fault s)) × (leaves (fill_of width s) width s ≡ s)
+    unfolding fill_of answer_of
+    fill_not_utf8 h = let t = le-ltb text_most (length s) l in let u = lt-ltb (first_fault s) (length s) h in (rw (t, u), rw (t, u))
 
     module _ (h : Whole s) where
-      pub fill-too-wide : widthMost < width → (answer_of (fillOf width s) ≡ refusal 3 0) × (leaves (fillOf width s) width s ≡ s)
-      unfolding fillOf answer_of
-      fill-too-wide w =
-          let t = le-ltb textMost (length s) l in
-          let u = le-ltb (firstFault s) (length s) (omega arith) in
-          let v = lt-ltb widthMost width w in
+      pub fill_too_wide : width_most < width → (answer_of (fill_of width s) ≡ refusal 3 0) × (leaves (fill_of width s) width s ≡ s)
+      unfolding fill_of answer_of
+      fill_too_wide w =
+          let t = le-ltb text_most (length s) l in
+          let u = le-ltb (first_fault s) (length s) (omega arith) in
+          let v = lt-ltb width_most width w in
           (rw (t, u, v), rw (t, u, v))
 
-      pub fill-fills : width ≤ widthMost → (answer_of (fillOf width s) ≡ success (length (textBreaks width s))) × (leaves (fillOf width s) width s ≡ filled width s)
-      unfolding fillOf answer_of
-      fill-fills w =
-          let t = le-ltb textMost (length s) l in
-          let u = le-ltb (firstFault s) (length s) (omega arith) in
-          let v = le-ltb widthMost width w in
+      pub fill_fills : width ≤ width_most → (answer_of (fill_of width s) ≡ success (length (text_breaks width s))) × (leaves (fill_of width s) width s ≡ filled width s)
+      unfolding fill_of answer_of
+      fill_fills w =
+          let t = le-ltb text_most (length s) l in
+          let u = le-ltb (first_fault s) (length s) (omega arith) in
+          let v = le-ltb width_most width w in
           (rw (t, u, v), rw (t, u, v))
 
 -- ---- what changes
@@ -58,54 +58,54 @@ module _ (width : ℕ) (s : List ℕ) where
 -- The length stays.
 pub same_length : (width : ℕ) (s : List ℕ) → length (filled width s) ≡ length s
 unfolding filled
-same_length width s = broken-length s (textBreaks width s)
+same_length width s = broken_length s (text_breaks width s)
 
 -- Each break is an allowed one, of a byte of the text, and that byte is a newline now;
-pub breaks-allowed : (width : ℕ) (s : List ℕ) (p : ℕ) → p ∈ textBreaks width s → (p < length s) × AllowedBreak s p
-breaks-allowed width s p m = break-allowed width s m
+pub breaks_allowed : (width : ℕ) (s : List ℕ) (p : ℕ) → p ∈ text_breaks width s → (p < length s) × AllowedBreak s p
+breaks_allowed width s p m = break_allowed width s m
 
-pub breaks-newlines : (width : ℕ) (s : List ℕ) (p : ℕ) → p ∈ textBreaks width s → get_or (filled width s) p 0 ≡ 0x0A
+pub breaks_newlines : (width : ℕ) (s : List ℕ) (p : ℕ) → p ∈ text_breaks width s → get_or (filled width s) p 0 ≡ 0x0A
 unfolding filled
-breaks-newlines width s p m = broken-there s (textBreaks width s) p (break-allowed width s m).0 m
+breaks_newlines width s p m = broken_there s (text_breaks width s) p (break_allowed width s m).0 m
 
 -- every other byte is as it was.
-pub others_same : (width : ℕ) (s : List ℕ) (p : ℕ) → (p ∈ textBreaks width s → ⊥) → get_or (filled width s) p 0 ≡ get_or s p 0
+pub others_same : (width : ℕ) (s : List ℕ) (p : ℕ) → (p ∈ text_breaks width s → ⊥) → get_or (filled width s) p 0 ≡ get_or s p 0
 unfolding filled
-others_same width s p n = broken-other s (textBreaks width s) p n
+others_same width s p n = broken_other s (text_breaks width s) p n
 
 -- "The count returned is the number of bytes changed."
-pub count-is-changes : (width : ℕ) (s : List ℕ) → length (textBreaks width s) ≡ differences s (filled width s)
-count-is-changes width s = sym (breaks-counted width s)
+pub count_is_changes : (width : ℕ) (s : List ℕ) → length (text_breaks width s) ≡ differences s (filled width s)
+count_is_changes width s = sym (breaks_counted width s)
 
 -- ---- the lines of an input line, its body being s
 
 -- Its words are f and then r. The lines that the breaks make are a grouping: each has one word or fits;
-pub own-lines : (width : ℕ) (s : List ℕ) (f : Word) (r : List Word) → words s ≡ f ∷ r
-    → (breaks width s ≡ places r (fit width (columnsOf f) (map fragmentOf r)))
-    × Grouping width (map fragmentOf (words s)) (lines (fragmentOf f) (map fragmentOf r) (fit width (columnsOf f) (map fragmentOf r)))
-unfolding breaks breaksOf
-own-lines width s f r e = (rw e, rw e (count-met width (fragmentOf f) (map fragmentOf r)).0)
+pub own_lines : (width : ℕ) (s : List ℕ) (f : Word) (r : List Word) → words s ≡ f ∷ r
+    → (breaks width s ≡ places r (fit width (columns_of f) (map fragment_of r)))
+    × Grouping width (map fragment_of (words s)) (lines (fragment_of f) (map fragment_of r) (fit width (columns_of f) (map fragment_of r)))
+unfolding breaks breaks_of
+own_lines width s f r e = (rw e, rw e (count_met width (fragment_of f) (map fragment_of r)).0)
 
 -- there are one more of them than breaks;
 pub lines_are : (width : ℕ) (s : List ℕ) (f : Word) (r : List Word) → words s ≡ f ∷ r
-    → length (lines (fragmentOf f) (map fragmentOf r) (fit width (columnsOf f) (map fragmentOf r))) ≡ suc (length (breaks width s))
-lines_are width s f r e = (count-met width (fragmentOf f) (map fragmentOf r)).1 ∙ sym (breaks-lines width s ∙ rw e)
+    → length (lines (fragment_of f) (map fragment_of r) (fit width (columns_of f) (map fragment_of r))) ≡ suc (length (breaks width s))
+lines_are width s f r e = (count_met width (fragment_of f) (map fragment_of r)).1 ∙ sym (breaks_lines width s ∙ rw e)
 
 -- and no grouping has fewer.
-pub fewest : (width : ℕ) (s : List ℕ) (others : List (List Fragment)) → Grouping width (map fragmentOf (words s)) others → suc (length (breaks width s)) ≤ max 1 (length others)
-fewest width s others g = breaks-least width s g
+pub fewest : (width : ℕ) (s : List ℕ) (others : List (List Fragment)) → Grouping width (map fragment_of (words s)) others → suc (length (breaks width s)) ≤ max 1 (length others)
+fewest width s others g = breaks_least width s g
 
 -- A larger width never gives an input line more lines.
-pub wider-no-more : (v w : ℕ) (s : List ℕ) → v ≤ w → length (breaks w s) ≤ length (breaks v s)
-wider-no-more = breaks-wider
+pub wider_no_more : (v w : ℕ) (s : List ℕ) → v ≤ w → length (breaks w s) ≤ length (breaks v s)
+wider_no_more = breaks_wider
 
 -- ---- filled again
 
 -- Filling a text that a fill has written, at the same width, answers count 0 and changes no byte.
-pub filled-again : (width : ℕ) (s : List ℕ) → length s ≤ textMost → Whole s → width ≤ widthMost
-    → (answer_of (fillOf width (filled width s)) ≡ success 0) × (leaves (fillOf width (filled width s)) width (filled width s) ≡ filled width s)
+pub filled_again : (width : ℕ) (s : List ℕ) → length s ≤ text_most → Whole s → width ≤ width_most
+    → (answer_of (fill_of width (filled width s)) ≡ success 0) × (leaves (fill_of width (filled width s)) width (filled width s) ≡ filled width s)
 unfolding filled broken
-filled-again width s l h w =
-    let n = again-none width s in
-    let a = fill-fills width (filled width s) (omega (arith, same_length width s)) (filled-whole width s h) w in
+filled_again width s l h w =
+    let n = again_none width s in
+    let a = fill_fills width (filled width s) (omega (arith, same_length width s)) (filled_whole width s h) w in
     (a.0 ∙ ap (λ ps. success (length ps)) n, a.1 ∙ ap (broken (filled width s)) n)

@@ -4,46 +4,46 @@ use mathlib.Core.Path.{◌≡◌}
 use mathlib.Core.List.{List, []}
 use Prim.Native.Nat.{ℕ, ◌≤◌, ◌<◌}
 use lib.ListN.{length, take}
-use Rattle.units.specs.Limits.{textMost}
-use Rattle.chars.specs.Utf8.{firstFault, Whole}
+use Rattle.units.specs.Limits.{text_most}
+use Rattle.chars.specs.Utf8.{first_fault, Whole}
 use Rattle.words.specs.Words.{content, words}
 use Rattle.reader.specs.declared.Opened.TheVariants.{Ready, TooLong, NotUtf8}
 use Rattle.reader.specs.declared.Found.TheVariants.{NoMore}
-use Rattle.reader.specs.Reader.{openingOf, stay, turn_of, answers}
+use Rattle.reader.specs.Reader.{opening_of, stay, turn_of, answers}
 use Rattle.reader.proofs.Laws as laws
 
 module _ (s : List ℕ) where
   -- "Opening tests 1 and 2 and starts at 0; if refused, the reader stands at the text's length."
-  pub opening-too-long : textMost < length s → openingOf s ≡ record { answer = TooLong (record { 0 = length s }); at = record { 0 = length s } }
-  opening-too-long = laws.refuses-long s
+  pub opening_too_long : text_most < length s → opening_of s ≡ record { answer = TooLong (record { 0 = length s }); at = record { 0 = length s } }
+  opening_too_long = laws.refuses_long s
 
-  pub opening-not-utf8 : length s ≤ textMost → firstFault s < length s → openingOf s ≡ record { answer = NotUtf8 (record { 0 = firstFault s }); at = record { 0 = length s } }
-  opening-not-utf8 = laws.refuses-broken s
+  pub opening_not_utf8 : length s ≤ text_most → first_fault s < length s → opening_of s ≡ record { answer = NotUtf8 (record { 0 = first_fault s }); at = record { 0 = length s } }
+  opening_not_utf8 = laws.refuses_broken s
 
-  pub opening-starts : length s ≤ textMost → Whole s → openingOf s ≡ record { answer = Ready; at = record { 0 = 0 } }
-  opening-starts = laws.opens s
+  pub opening_starts : length s ≤ text_most → Whole s → opening_of s ≡ record { answer = Ready; at = record { 0 = 0 } }
+  opening_starts = laws.opens s
 
   -- "It answers the words in order": n calls answer the first n words, and as many as the text has bytes answer all of them.
-  pub reads-in-order : (n : ℕ) → length s ≤ textMost → Whole s → answers n s (openingOf s).at.0 ≡ take n (words s)
-  reads-in-order n = laws.opened-reads n s
+  pub reads_in_order : (n : ℕ) → length s ≤ text_most → Whole s → answers n s (opening_of s).at.0 ≡ take n (words s)
+  reads_in_order n = laws.opened_reads n s
 
-  pub reads_all : (n : ℕ) → length s ≤ textMost → Whole s → length s ≤ n → answers n s (openingOf s).at.0 ≡ words s
-  reads_all n = laws.opened-reads-all n s
+  pub reads_all : (n : ℕ) → length s ≤ text_most → Whole s → length s ≤ n → answers n s (opening_of s).at.0 ≡ words s
+  reads_all n = laws.opened_reads_all n s
 
   -- A reader whose opening was refused answers no word.
-  pub refused_none : (n : ℕ) → ((openingOf s).answer ≡ Ready → ⊥) → answers n s (openingOf s).at.0 ≡ []
-  refused_none n = laws.refused-reads n s
+  pub refused_none : (n : ℕ) → ((opening_of s).answer ≡ Ready → ⊥) → answers n s (opening_of s).at.0 ≡ []
+  refused_none n = laws.refused_reads n s
 
   -- "then "no more" at each call, the offset staying"
-  pub no-more-stays : (i : ℕ) → (turn_of s i).found ≡ NoMore → turn_of s i ≡ stay i
-  no-more-stays = laws.no-more-stays s
+  pub no_more_stays : (i : ℕ) → (turn_of s i).found ≡ NoMore → turn_of s i ≡ stay i
+  no_more_stays = laws.no_more_stays s
 
   -- "also "no more" if the text exceeds 60,000 bytes, its offset is past the end or a fault as in 2 lies in the word to be read"
-  pub no-more-too-long : (i : ℕ) → textMost < length s → turn_of s i ≡ stay i
-  no-more-too-long = laws.turn-too-long s
+  pub no_more_too_long : (i : ℕ) → text_most < length s → turn_of s i ≡ stay i
+  no_more_too_long = laws.turn_too_long s
 
-  pub no-more-past : (i : ℕ) → length s ≤ i → turn_of s i ≡ stay i
-  no-more-past = laws.turn-at-end s
+  pub no_more_past : (i : ℕ) → length s ≤ i → turn_of s i ≡ stay i
+  no_more_past = laws.turn_at_end s
 
-  pub no-more-fault : (i : ℕ) → i < length s → firstFault (content s i) < length (content s i) → turn_of s i ≡ stay i
-  no-more-fault = laws.turn-broken s
+  pub no_more_fault : (i : ℕ) → i < length s → first_fault (content s i) < length (content s i) → turn_of s i ≡ stay i
+  no_more_fault = laws.turn_broken s

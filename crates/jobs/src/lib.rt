@@ -2,7 +2,7 @@
 // mean, what is answered and when to stop is decided by `record`. It stands apart from `job`, so that the
 // cases of `job_cases` run the same code.
 ghost use Rattle.std.specs.Prelude.{◌≡◌, ◌≤◌, length};
-ghost use Rattle.units.specs.Limits.{textMost};
+ghost use Rattle.units.specs.Limits.{text_most};
 
 use record::{HEAD_BYTES, Head, Reply};
 
@@ -23,8 +23,8 @@ fn send(output: i32, reply: Reply, text: &[u8]) -> bool {
 
 // Reads into a part of the buffer until that is full or the input ends. Answers how many bytes came.
 fn read(input: i32, part: &mut [u8]) -> usize
-    requires { length part.old ≤ textMost }
-    ensures { result ≤ textMost }
+    requires { length part.old ≤ text_most }
+    ensures { result ≤ text_most }
 {
     io::read_full(input, part)
 }
@@ -32,7 +32,7 @@ fn read(input: i32, part: &mut [u8]) -> usize
 // Reads the text of a job and replies to it. What the buffer cannot hold of a text that is too long is
 // read over its start. Answers whether to go on.
 fn serve_text(buffer: &mut [u8], input: i32, output: i32, width: u8, len: u16) -> bool
-    requires { length buffer.old ≡ textMost }
+    requires { length buffer.old ≡ text_most }
 {
     let kept = record::kept(len);
     let past = record::past(len);
@@ -44,7 +44,7 @@ fn serve_text(buffer: &mut [u8], input: i32, output: i32, width: u8, len: u16) -
 
 // Reads one record and replies to it. Answers whether to go on.
 fn serve_one(buffer: &mut [u8], input: i32, output: i32) -> bool
-    requires { length buffer.old ≡ textMost }
+    requires { length buffer.old ≡ text_most }
 {
     let mut space = [0u8; HEAD_BYTES];
     let came = io::read_full(input, &mut space);
@@ -59,7 +59,7 @@ fn serve_one(buffer: &mut [u8], input: i32, output: i32) -> bool
 // Replies to the records of an input, in order, until it ends or `record` says stop. The buffer is for
 // the text of one job at a time.
 pub fn serve(buffer: &mut [u8], input: i32, output: i32)
-    requires { length buffer.old ≡ textMost }
+    requires { length buffer.old ≡ text_most }
 {
     // a proved loop ends: this many records come in no day, and in no thousand years
     let mut left = u64::MAX;

@@ -12,76 +12,76 @@ use Rattle.words.specs.Words.{space}
 use Rattle.lines.specs.Lines.{newline, in_body}
 use Rattle.judge.specs.declared.Change.{Change}
 use Rattle.judge.specs.declared.Change.TheVariants.{Kept, Break, NotSpace, NotNewline, SpaceFollows, NoWord}
-use Rattle.judge.specs.Change.{changeAt, allowed, firstBadFrom, firstBad}
+use Rattle.judge.specs.Change.{change_at, allowed, first_bad_from, first_bad}
 
 -- There is no space past the end.
-pub space-none : (s : List ℕ) (p : ℕ) → length s ≤ p → false ≡ space (get_or s p 0)
-space-none s p l = rw (get_or-eq_default s 0 l)
+pub space_none : (s : List ℕ) (p : ℕ) → length s ≤ p → false ≡ space (get_or s p 0)
+space_none s p l = rw (get_or-eq_default s 0 l)
 
 -- ---- `change_at`
 
 module _ (b a : List ℕ) (p : ℕ) where
-  pub change-kept : get_or b p 0 ≡ get_or a p 0 → Kept ≡ changeAt b a p
-  unfolding changeAt
-  change-kept e = rw (eq-eqb (get_or b p 0) (get_or a p 0) e)
+  pub change_kept : get_or b p 0 ≡ get_or a p 0 → Kept ≡ change_at b a p
+  unfolding change_at
+  change_kept e = rw (eq-eqb (get_or b p 0) (get_or a p 0) e)
 
   module _ {r : Bool} (d : get_or b p 0 ≡ get_or a p 0 → ⊥) (f : r ≡ space (get_or b p 0)) where
-    pub change-letter : r ≡ false → NotSpace ≡ changeAt b a p
-    unfolding changeAt
-    change-letter e = rw (ne_eqb (get_or b p 0) (get_or a p 0) d, ← f, e)
+    pub change_letter : r ≡ false → NotSpace ≡ change_at b a p
+    unfolding change_at
+    change_letter e = rw (ne_eqb (get_or b p 0) (get_or a p 0) d, ← f, e)
 
     module _ {q : Bool} (e : r ≡ true) (g : q ≡ newline (get_or a p 0)) where
-      pub change-other : q ≡ false → NotNewline ≡ changeAt b a p
-      unfolding changeAt
-      change-other h = rw (ne_eqb (get_or b p 0) (get_or a p 0) d, ← f, e, ← g, h)
+      pub change_other : q ≡ false → NotNewline ≡ change_at b a p
+      unfolding change_at
+      change_other h = rw (ne_eqb (get_or b p 0) (get_or a p 0) d, ← f, e, ← g, h)
 
       module _ {t : Bool} (h : q ≡ true) (i : t ≡ space (get_or b (p + 1) 0)) where
-        pub change-space : t ≡ true → SpaceFollows ≡ changeAt b a p
-        unfolding changeAt
-        change-space j = rw (ne_eqb (get_or b p 0) (get_or a p 0) d, ← f, e, ← g, h, ← add-one p, ← i, j)
+        pub change_space : t ≡ true → SpaceFollows ≡ change_at b a p
+        unfolding change_at
+        change_space j = rw (ne_eqb (get_or b p 0) (get_or a p 0) d, ← f, e, ← g, h, ← add-one p, ← i, j)
 
         module _ {u : Bool} (j : t ≡ false) (k : u ≡ in_body b (p + 1)) where
-          pub change-break : u ≡ true → Break ≡ changeAt b a p
-          unfolding changeAt
-          change-break l = rw (ne_eqb (get_or b p 0) (get_or a p 0) d, ← f, e, ← g, h, ← add-one p, ← i, j, ← k, l)
+          pub change_break : u ≡ true → Break ≡ change_at b a p
+          unfolding change_at
+          change_break l = rw (ne_eqb (get_or b p 0) (get_or a p 0) d, ← f, e, ← g, h, ← add-one p, ← i, j, ← k, l)
 
-          pub change-no-word : u ≡ false → NoWord ≡ changeAt b a p
-          unfolding changeAt
-          change-no-word l = rw (ne_eqb (get_or b p 0) (get_or a p 0) d, ← f, e, ← g, h, ← add-one p, ← i, j, ← k, l)
+          pub change_no_word : u ≡ false → NoWord ≡ change_at b a p
+          unfolding change_at
+          change_no_word l = rw (ne_eqb (get_or b p 0) (get_or a p 0) d, ← f, e, ← g, h, ← add-one p, ← i, j, ← k, l)
 
-pub ruleset changing = (change-kept, change-letter, change-other, change-space, change-break, change-no-word, not-true, not-false)
+pub ruleset changing = (change_kept, change_letter, change_other, change_space, change_break, change_no_word, not-true, not-false)
 
 -- ---- `first_bad`
 
 -- All bytes before `at` are changed as they may be.
 pub record Sought (b a : List ℕ) (at : ℕ) : Type 0 where
-  pub same : firstBadFrom b a (length b - at) at ≡ firstBad b a
+  pub same : first_bad_from b a (length b - at) at ≡ first_bad b a
   pub inside : at ≤ length b
 
-pub sought-start : (b a : List ℕ) → Sought b a 0
-unfolding firstBad
-sought-start b a = let e : length b - 0 ≡ length b = omega arith in record { same = rw e; inside = omega arith }
+pub sought_start : (b a : List ℕ) → Sought b a 0
+unfolding first_bad
+sought_start b a = let e : length b - 0 ≡ length b = omega arith in record { same = rw e; inside = omega arith }
 
 module _ {b a : List ℕ} {at : ℕ} (k : Sought b a at) where
-  next_place : at < length b → firstBad b a ≡ pick (allowed (changeAt b a at)) (firstBadFrom b a (length b - (at + 1)) (at + 1)) at
-  unfolding firstBadFrom
+  next_place : at < length b → first_bad b a ≡ pick (allowed (change_at b a at)) (first_bad_from b a (length b - (at + 1)) (at + 1)) at
+  unfolding first_bad_from
   next_place l =
       let e : length b - at ≡ suc (length b - (at + 1)) = omega arith in
-      let s : firstBadFrom b a (suc (length b - (at + 1))) at ≡ firstBad b a = rw e at k.same in
+      let s : first_bad_from b a (suc (length b - (at + 1))) at ≡ first_bad b a = rw e at k.same in
       sym s ∙ rw (add-one at)
 
-  pub sought-step : {r : Change} {t : Bool} → at < length b → r ≡ changeAt b a at → t ≡ allowed r → t ≡ true → Sought b a (at + 1)
-  sought-step {r} {t} l e f g =
-      let h : allowed (changeAt b a at) ≡ true = rw (← e, ← f, g) in
+  pub sought_step : {r : Change} {t : Bool} → at < length b → r ≡ change_at b a at → t ≡ allowed r → t ≡ true → Sought b a (at + 1)
+  sought_step {r} {t} l e f g =
+      let h : allowed (change_at b a at) ≡ true = rw (← e, ← f, g) in
       record { same = sym (next_place l ∙ rw h); inside = omega arith }
 
-  pub sought-stop : {r : Change} {t : Bool} → at < length b → r ≡ changeAt b a at → t ≡ allowed r → t ≡ false → at ≡ firstBad b a
-  sought-stop {r} {t} l e f g =
-      let h : allowed (changeAt b a at) ≡ false = rw (← e, ← f, g) in
+  pub sought_stop : {r : Change} {t : Bool} → at < length b → r ≡ change_at b a at → t ≡ allowed r → t ≡ false → at ≡ first_bad b a
+  sought_stop {r} {t} l e f g =
+      let h : allowed (change_at b a at) ≡ false = rw (← e, ← f, g) in
       sym (next_place l ∙ rw h)
 
-  pub sought-end : length b ≤ at → at ≡ firstBad b a
-  unfolding firstBadFrom
-  sought-end l = let e : length b - at ≡ 0 = omega arith in let s : firstBadFrom b a 0 at ≡ firstBad b a = rw e at k.same in s
+  pub sought_end : length b ≤ at → at ≡ first_bad b a
+  unfolding first_bad_from
+  sought_end l = let e : length b - at ≡ 0 = omega arith in let s : first_bad_from b a 0 at ≡ first_bad b a = rw e at k.same in s
 
-pub ruleset seeking = (sought-start, sought-step, sought-stop, sought-end, not-true, not-false)
+pub ruleset seeking = (sought_start, sought_step, sought_stop, sought_end, not-true, not-false)

@@ -8,8 +8,8 @@ use Rattle.judge.specs.declared.Change.TheVariants.{Kept, Break, NotSpace, NotNe
 
 -- What became of the byte at a place: it is the same; or it was a space that the next word of its input line directly follows, and is a newline now; or one of four kinds of change that is no such break.
 -- Exactly one holds of each byte. Another space that follows is said before whether a word does.
-unfoldable pub changeAt : List ℕ → List ℕ → ℕ → Change
-changeAt before after p =
+unfoldable pub change_at : List ℕ → List ℕ → ℕ → Change
+change_at before after p =
     pick (eqb (get_or before p 0) (get_or after p 0)) Kept
     (pick (space (get_or before p 0))
     (pick (newline (get_or after p 0))
@@ -27,9 +27,9 @@ allowed SpaceFollows = false
 allowed NoWord = false
 
 -- "first such byte": the first of the n places from p on whose change is not allowed, or the place after them.
-unfoldable pub firstBadFrom : List ℕ → List ℕ → ℕ → ℕ → ℕ
-firstBadFrom before after zero p = p
-firstBadFrom before after (suc n) p = pick (allowed (changeAt before after p)) (firstBadFrom before after n (suc p)) p
+unfoldable pub first_bad_from : List ℕ → List ℕ → ℕ → ℕ → ℕ
+first_bad_from before after zero p = p
+first_bad_from before after (suc n) p = pick (allowed (change_at before after p)) (first_bad_from before after n (suc p)) p
 
-unfoldable pub firstBad : List ℕ → List ℕ → ℕ
-firstBad before after = firstBadFrom before after (length before) 0
+unfoldable pub first_bad : List ℕ → List ℕ → ℕ
+first_bad before after = first_bad_from before after (length before) 0

@@ -1,23 +1,23 @@
 -- Demand 3, as a person asks it: which text after is accepted against a text before at a width. Nothing here runs first fit.
 use Rattle.std.specs.Prelude.{◌≡◌, ℕ, ◌+◌, ◌≤◌, ◌<◌, Bool, true, false, List, [], ◌∷◌, ◌++◌, map, length, get_or, take}
-use Rattle.units.specs.Limits.{textMost, widthMost}
+use Rattle.units.specs.Limits.{text_most, width_most}
 use Rattle.logic.specs.Member.{◌∈◌}
 use Rattle.chars.specs.Utf8.{Whole}
 use Rattle.fragments.specs.Fragments.{Fragment}
-use Rattle.first_fit.specs.Groupings.{lineWidth, AllGood, Grouping, lines}
+use Rattle.first_fit.specs.Groupings.{line_width, AllGood, Grouping, lines}
 use Rattle.words.specs.declared.Word.{Word}
 use Rattle.words.specs.Words.{words}
 use Rattle.words.specs.Lists.{start_of}
-use Rattle.lines.specs.Lines.{InputLine, inputLines, body_of}
-use Rattle.lines.specs.Breaks.{fragmentOf}
+use Rattle.lines.specs.Lines.{InputLine, input_lines, body_of}
+use Rattle.lines.specs.Breaks.{fragment_of}
 use Rattle.lines.specs.Allowed.{AllowedBreak}
 use Rattle.judge.specs.Judge.{marks}
 
 -- The bounds of document 01, which the check tests first. Where the lengths agree, the text after is within them too.
 pub record Limits (width : ℕ) (before : List ℕ) : Type 0 where
-  pub small : length before ≤ textMost
+  pub small : length before ≤ text_most
   pub whole : Whole before
-  pub narrow : width ≤ widthMost
+  pub narrow : width ≤ width_most
 
 -- "each changed byte was the last space before a further word of its input line and is now a newline"
 pub record Broken (before after : List ℕ) (p : ℕ) : Type 0 where
@@ -26,14 +26,14 @@ pub record Broken (before after : List ℕ) (p : ℕ) : Type 0 where
 
 -- The words of an input line, and the lines that the text after forms of them.
 abbrev pub words_of : List ℕ → InputLine → List Fragment
-words_of before l = map fragmentOf (words (body_of before l))
+words_of before l = map fragment_of (words (body_of before l))
 
-unfoldable pub formedOf : List ℕ → ℕ → List Word → List (List Fragment)
-formedOf after start [] = []
-formedOf after start (w ∷ ws) = lines (fragmentOf w) (map fragmentOf ws) (marks after start ws)
+unfoldable pub formed_of : List ℕ → ℕ → List Word → List (List Fragment)
+formed_of after start [] = []
+formed_of after start (w ∷ ws) = lines (fragment_of w) (map fragment_of ws) (marks after start ws)
 
 abbrev pub formed : List ℕ → List ℕ → InputLine → List (List Fragment)
-formed before after l = formedOf after l.start (words (body_of before l))
+formed before after l = formed_of after l.start (words (body_of before l))
 
 pub record AcceptedLine (width : ℕ) (before after : List ℕ) (l : InputLine) : Type 0 where
   -- "each line so formed holds one word, or its word widths and inner spaces sum to no more than the width"
@@ -45,7 +45,7 @@ pub record AcceptedText (width : ℕ) (before after : List ℕ) : Type 0 where
   -- "lengths agree"
   pub lengths : length after ≡ length before
   pub changes : (p : ℕ) → p < length before → (get_or after p 0 ≡ get_or before p 0 → ⊥) → Broken before after p
-  pub each : (l : InputLine) → l ∈ inputLines before → AcceptedLine width before after l
+  pub each : (l : InputLine) → l ∈ input_lines before → AcceptedLine width before after l
 
 -- ---- the first thing that is wrong
 
@@ -58,25 +58,25 @@ pub record BadAt (before after : List ℕ) (p : ℕ) : Type 0 where
 
 -- "a line of two or more words is too wide"
 abbrev pub Wide : ℕ → List Fragment → Type 0
-Wide width line = (1 < length line) × (width < lineWidth line)
+Wide width line = (1 < length line) × (width < line_width line)
 
 -- Where the lines start that are formed of an input line: at its first word, which starts at 0, and at each that has a newline before it.
-unfoldable pub startsOf : List Word → List Bool → List ℕ
-startsOf [] b = []
-startsOf (w ∷ ws) [] = []
-startsOf (w ∷ ws) (true ∷ b) = start_of w ∷ startsOf ws b
-startsOf (w ∷ ws) (false ∷ b) = startsOf ws b
+unfoldable pub starts_of : List Word → List Bool → List ℕ
+starts_of [] b = []
+starts_of (w ∷ ws) [] = []
+starts_of (w ∷ ws) (true ∷ b) = start_of w ∷ starts_of ws b
+starts_of (w ∷ ws) (false ∷ b) = starts_of ws b
 
-unfoldable pub lineStarts : List ℕ → ℕ → List Word → List ℕ
-lineStarts after start [] = []
-lineStarts after start (w ∷ ws) = 0 ∷ startsOf ws (marks after start ws)
+unfoldable pub line_starts : List ℕ → ℕ → List Word → List ℕ
+line_starts after start [] = []
+line_starts after start (w ∷ ws) = 0 ∷ starts_of ws (marks after start ws)
 
 -- "first byte of the first such line": of the lines formed, counted from 0, that number is too wide and none before it is.
 pub record WideAt (width : ℕ) (after : List ℕ) (start : ℕ) (ws : List Word) (p : ℕ) : Type 0 where
   pub number : ℕ
-  pub good : AllGood width (take number (formedOf after start ws))
-  pub wide : Wide width (get_or (formedOf after start ws) number [])
-  pub place : p ≡ start + get_or (lineStarts after start ws) number 0
+  pub good : AllGood width (take number (formed_of after start ws))
+  pub wide : Wide width (get_or (formed_of after start ws) number [])
+  pub place : p ≡ start + get_or (line_starts after start ws) number 0
 
 -- 11: all changes are allowed breaks, and no line of an earlier input line is too wide.
 pub record WideLineAt (width : ℕ) (before after : List ℕ) (p : ℕ) : Type 0 where
@@ -84,7 +84,7 @@ pub record WideLineAt (width : ℕ) (before after : List ℕ) (p : ℕ) : Type 0
   pub earlier : List InputLine
   pub line : InputLine
   pub later : List InputLine
-  pub split : inputLines before ≡ earlier ++ line ∷ later
+  pub split : input_lines before ≡ earlier ++ line ∷ later
   pub good : (l : InputLine) → l ∈ earlier → AllGood width (formed before after l)
   pub wide : WideAt width after line.start (words (body_of before line)) p
 
@@ -92,11 +92,11 @@ pub record WideLineAt (width : ℕ) (before after : List ℕ) (p : ℕ) : Type 0
 -- words has fewer.
 pub record ManyLinesAt (width : ℕ) (before after : List ℕ) (p : ℕ) : Type 0 where
   pub changes : (q : ℕ) → q < length before → (get_or after q 0 ≡ get_or before q 0 → ⊥) → Broken before after q
-  pub good : (l : InputLine) → l ∈ inputLines before → AllGood width (formed before after l)
+  pub good : (l : InputLine) → l ∈ input_lines before → AllGood width (formed before after l)
   pub earlier : List InputLine
   pub line : InputLine
   pub later : List InputLine
-  pub split : inputLines before ≡ earlier ++ line ∷ later
+  pub split : input_lines before ≡ earlier ++ line ∷ later
   pub place : p ≡ line.start
   pub enough : (l : InputLine) → l ∈ earlier → AcceptedLine width before after l
   pub others : List (List Fragment)

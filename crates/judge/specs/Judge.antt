@@ -2,18 +2,18 @@
 use Rattle.std.specs.Prelude.{ℕ, suc, ◌+◌, ◌-◌, ◌≤◌, Bool, true, false, List, [], ◌∷◌, map, eqb, ltb, length, get_or}
 use Rattle.units.specs.declared.Offset.{Offset}
 use Rattle.units.specs.declared.Answer.{Answer}
-use Rattle.units.specs.Limits.{textMost, widthMost}
+use Rattle.units.specs.Limits.{text_most, width_most}
 use Rattle.units.specs.Answers.{success, refusal}
 use Rattle.logic.specs.Choice.{pick}
-use Rattle.chars.specs.Utf8.{firstFault}
+use Rattle.chars.specs.Utf8.{first_fault}
 use Rattle.words.specs.declared.Word.{Word}
 use Rattle.words.specs.Words.{words}
-use Rattle.words.specs.Lists.{start_of, widthOfWord}
+use Rattle.words.specs.Lists.{start_of, width_of_word}
 use Rattle.first_fit.specs.Groupings.{fit, started}
-use Rattle.lines.specs.Lines.{InputLine, inputLines, body_of, newline}
+use Rattle.lines.specs.Lines.{InputLine, input_lines, body_of, newline}
 use Rattle.lines.specs.declared.Met.{Met}
-use Rattle.lines.specs.Breaks.{fragmentOf, columnsOf}
-use Rattle.lines.specs.Walk.{startsAt}
+use Rattle.lines.specs.Breaks.{fragment_of, columns_of}
+use Rattle.lines.specs.Walk.{starts_at}
 use Rattle.judge.specs.declared.Found.{Found}
 use Rattle.judge.specs.declared.Found.TheVariants.{At, Nowhere}
 use Rattle.judge.specs.declared.Line.{Line}
@@ -21,7 +21,7 @@ use Rattle.judge.specs.declared.Lined.{Lined}
 use Rattle.judge.specs.declared.Lined.TheVariants.{Good, Wide, Many}
 use Rattle.judge.specs.declared.Judged.{Judged}
 use Rattle.judge.specs.declared.Judged.TheVariants.{Accepted, TooLong, NotUtf8, TooWide, Lengths, BadChange, WideLine, ManyLines}
-use Rattle.judge.specs.Change.{firstBad}
+use Rattle.judge.specs.Change.{first_bad}
 
 -- ---- an input line that starts at `start`
 
@@ -34,79 +34,79 @@ marks after start ws = map (mark_of after start) ws
 
 -- "a line of two or more words is too wide | first byte of the first such line": the line that is being formed starts at `from` in the input line and has c columns, each word's whitespace among them. A
 -- further word that starts no line joins it, and makes it too wide by its own width, without its whitespace.
-unfoldable pub wideFrom : ℕ → ℕ → ℕ → ℕ → List Word → List Bool → Found
-wideFrom width start from c [] b = Nowhere
-wideFrom width start from c (w ∷ ws) [] = Nowhere
-wideFrom width start from c (w ∷ ws) (true ∷ b) = wideFrom width start (start_of w) (columnsOf w) ws b
-wideFrom width start from c (w ∷ ws) (false ∷ b) = pick (ltb width (c + widthOfWord w)) (At (record { 0 = start + from })) (wideFrom width start from (c + columnsOf w) ws b)
+unfoldable pub wide_from : ℕ → ℕ → ℕ → ℕ → List Word → List Bool → Found
+wide_from width start from c [] b = Nowhere
+wide_from width start from c (w ∷ ws) [] = Nowhere
+wide_from width start from c (w ∷ ws) (true ∷ b) = wide_from width start (start_of w) (columns_of w) ws b
+wide_from width start from c (w ∷ ws) (false ∷ b) = pick (ltb width (c + width_of_word w)) (At (record { 0 = start + from })) (wide_from width start from (c + columns_of w) ws b)
 
 unfoldable pub wide_of : ℕ → List ℕ → ℕ → List Word → Found
 wide_of width after start [] = Nowhere
-wide_of width after start (w ∷ ws) = wideFrom width start 0 (columnsOf w) ws (marks after start ws)
+wide_of width after start (w ∷ ws) = wide_from width start 0 (columns_of w) ws (marks after start ws)
 
 -- "an input line has more lines than needed": how many lines it has after its first, and how many first fit starts, than which no grouping has fewer.
 unfoldable pub given_of : List ℕ → ℕ → List Word → ℕ
 given_of after start [] = 0
 given_of after start (w ∷ ws) = started (marks after start ws)
 
-unfoldable pub neededOf : ℕ → List Word → ℕ
-neededOf width [] = 0
-neededOf width (w ∷ ws) = started (fit width (columnsOf w) (map fragmentOf ws))
+unfoldable pub needed_of : ℕ → List Word → ℕ
+needed_of width [] = 0
+needed_of width (w ∷ ws) = started (fit width (columns_of w) (map fragment_of ws))
 
-abbrev pub manyOf : ℕ → List ℕ → ℕ → List Word → Bool
-manyOf width after start ws = ltb (neededOf width ws) (given_of after start ws)
+abbrev pub many_of : ℕ → List ℕ → ℕ → List Word → Bool
+many_of width after start ws = ltb (needed_of width ws) (given_of after start ws)
 
 -- What is wrong with the line.
-abbrev pub linedBy : Found → Bool → Lined
-linedBy (At p) many = Wide p
-linedBy Nowhere many = pick many Many Good
+abbrev pub lined_by : Found → Bool → Lined
+lined_by (At p) many = Wide p
+lined_by Nowhere many = pick many Many Good
 
-unfoldable pub linedOf : ℕ → List ℕ → ℕ → List Word → Lined
-linedOf width after start ws = linedBy (wide_of width after start ws) (manyOf width after start ws)
+unfoldable pub lined_of : ℕ → List ℕ → ℕ → List Word → Lined
+lined_of width after start ws = lined_by (wide_of width after start ws) (many_of width after start ws)
 
 -- ---- the whole text
 
-abbrev pub wideIn : ℕ → List ℕ → List ℕ → InputLine → Found
-wideIn width before after l = wide_of width after l.start (words (body_of before l))
+abbrev pub wide_in : ℕ → List ℕ → List ℕ → InputLine → Found
+wide_in width before after l = wide_of width after l.start (words (body_of before l))
 
 -- "first byte of the first such input line"
-abbrev pub manyIn : ℕ → List ℕ → List ℕ → InputLine → Found
-manyIn width before after l = pick (manyOf width after l.start (words (body_of before l))) (At (record { 0 = l.start })) Nowhere
+abbrev pub many_in : ℕ → List ℕ → List ℕ → InputLine → Found
+many_in width before after l = pick (many_of width after l.start (words (body_of before l))) (At (record { 0 = l.start })) Nowhere
 
 abbrev pub or_else : Found → Found → Found
 or_else (At p) f = At p
 or_else Nowhere f = f
 
 -- The first place that a rule finds in input lines.
-unfoldable pub firstIn : (InputLine → Found) → List InputLine → Found
-firstIn rule [] = Nowhere
-firstIn rule (l ∷ ls) = or_else (rule l) (firstIn rule ls)
+unfoldable pub first_in : (InputLine → Found) → List InputLine → Found
+first_in rule [] = Nowhere
+first_in rule (l ∷ ls) = or_else (rule l) (first_in rule ls)
 
 -- 11 of any input line goes before 12 of any other.
-abbrev pub manyBy : Found → Judged
-manyBy (At p) = ManyLines p
-manyBy Nowhere = Accepted
+abbrev pub many_by : Found → Judged
+many_by (At p) = ManyLines p
+many_by Nowhere = Accepted
 
-abbrev pub wideBy : Found → Found → Judged
-wideBy (At p) many = WideLine p
-wideBy Nowhere many = manyBy many
+abbrev pub wide_by : Found → Found → Judged
+wide_by (At p) many = WideLine p
+wide_by Nowhere many = many_by many
 
 unfoldable pub lines_of : ℕ → List ℕ → List ℕ → List InputLine → Judged
-lines_of width before after ls = wideBy (firstIn (wideIn width before after) ls) (firstIn (manyIn width before after) ls)
+lines_of width before after ls = wide_by (first_in (wide_in width before after) ls) (first_in (many_in width before after) ls)
 
 -- The texts have one length, which is within the limits, and the width is.
-unfoldable pub changesOf : ℕ → List ℕ → List ℕ → Judged
-changesOf width before after =
-    pick (ltb (firstBad before after) (length before)) (BadChange (record { 0 = firstBad before after }))
-    (lines_of width before after (inputLines before))
+unfoldable pub changes_of : ℕ → List ℕ → List ℕ → Judged
+changes_of width before after =
+    pick (ltb (first_bad before after) (length before)) (BadChange (record { 0 = first_bad before after }))
+    (lines_of width before after (input_lines before))
 
-unfoldable pub judgeOf : ℕ → List ℕ → List ℕ → Judged
-judgeOf width before after =
-    pick (ltb textMost (length before)) (TooLong (record { 0 = length before }))
-    (pick (ltb textMost (length after)) (TooLong (record { 0 = length after }))
-    (pick (ltb (firstFault before) (length before)) (NotUtf8 (record { 0 = firstFault before }))
-    (pick (ltb widthMost width) TooWide
-    (pick (eqb (length after) (length before)) (changesOf width before after)
+unfoldable pub judge_of : ℕ → List ℕ → List ℕ → Judged
+judge_of width before after =
+    pick (ltb text_most (length before)) (TooLong (record { 0 = length before }))
+    (pick (ltb text_most (length after)) (TooLong (record { 0 = length after }))
+    (pick (ltb (first_fault before) (length before)) (NotUtf8 (record { 0 = first_fault before }))
+    (pick (ltb width_most width) TooWide
+    (pick (eqb (length after) (length before)) (changes_of width before after)
     Lengths))))
 
 -- The document's numbers. "its count is .. 0 for the check"
@@ -123,8 +123,8 @@ answer_of (ManyLines o) = refusal 12 o.0
 -- ---- what the parts of the check ask and leave
 
 -- A line of an input line while its words are read: whether a word that starts at `at` and joins it makes it too wide.
-abbrev pub wideAt : ℕ → Line → Offset → Met → Bool
-wideAt width l at m = startsAt width l.columns.0 at.0 m.word.0
+abbrev pub wide_at : ℕ → Line → Offset → Met → Bool
+wide_at width l at m = starts_at width l.columns.0 at.0 m.word.0
 
 -- The line with one more word: joined to it, or starting the next.
 unfoldable pub placed_of : Line → Offset → Met → Bool → Line
@@ -139,7 +139,7 @@ pub record Room (l : Line) (m : Met) : Type 0 where
   pub before : l.before ≤ 1000000
 
 -- The first input line with too many lines, where `many` is the first so far: the one that starts at `start` may be.
-unfoldable pub manyNext : Found → Lined → ℕ → Found
-manyNext many Good start = many
-manyNext many (Wide p) start = many
-manyNext many Many start = or_else many (At (record { 0 = start }))
+unfoldable pub many_next : Found → Lined → ℕ → Found
+many_next many Good start = many
+many_next many (Wide p) start = many
+many_next many Many start = or_else many (At (record { 0 = start }))

@@ -4,13 +4,13 @@
 //
 // Nothing here fills a text, and a layout need not be the one that first fit would write.
 ghost use Rattle.std.specs.Prelude.{◌≡◌, ◌+◌, ◌-◌, ◌≤◌, ◌<◌, false, length, get_or};
-ghost use Rattle.units.specs.Limits.{textMost};
+ghost use Rattle.units.specs.Limits.{text_most};
 ghost use Rattle.logic.specs.Choice.{pick};
 ghost use Rattle.chars.specs.Utf8.{Whole};
 ghost use Rattle.words.specs.Words.{space, words};
-ghost use Rattle.lines.specs.Lines.{newline, inputLines};
-ghost use Rattle.judge.specs.Change.{changeAt, allowed, firstBad};
-ghost use Rattle.judge.specs.Judge.{linedOf, lines_of, changesOf, judgeOf, answer_of, Room, wideAt, placed_of, manyNext};
+ghost use Rattle.lines.specs.Lines.{newline, input_lines};
+ghost use Rattle.judge.specs.Change.{change_at, allowed, first_bad};
+ghost use Rattle.judge.specs.Judge.{lined_of, lines_of, changes_of, judge_of, answer_of, Room, wide_at, placed_of, many_next};
 
 use chars::Checked;
 use lines::Met;
@@ -87,7 +87,7 @@ fn space_at(text: &[u8], at: usize) -> bool
 // What became of the byte at a place.
 pub fn change_at(before: &[u8], after: &[u8], at: usize) -> Change
     requires { (at < length before.now) × (length after.now ≡ length before.now) }
-    ensures { result ≡ changeAt before.now after.now at }
+    ensures { result ≡ change_at before.now after.now at }
 {
     if before[at] == after[at] {
         return Change::Kept;
@@ -125,7 +125,7 @@ fn is_allowed(change: Change) -> bool
 // The first byte whose change is not allowed, or the length.
 fn first_bad(before: &[u8], after: &[u8]) -> usize
     requires { length after.now ≡ length before.now }
-    ensures { result ≡ firstBad before.now after.now }
+    ensures { result ≡ first_bad before.now after.now }
 {
     let mut at = 0;
     while at < before.len() {
@@ -163,7 +163,7 @@ fn placed(line: Line, at: Offset, word: Met, starts: bool) -> Line
 // Whether a word makes a line of the text after too wide, where it does not start a line of its own.
 fn is_wide(line: Line, at: Offset, word: Met, starts: bool, width: usize) -> bool
     requires { Room line word }
-    ensures { result ≡ pick starts false (wideAt width line at word) }
+    ensures { result ≡ pick starts false (wide_at width line at word) }
 {
     if starts {
         return false;
@@ -175,7 +175,7 @@ fn is_wide(line: Line, at: Offset, word: Met, starts: bool, width: usize) -> boo
 // First fit's line with one more word.
 fn fit_word(line: Line, at: Offset, word: Met, width: usize) -> Line
     requires { Room line word }
-    ensures { result ≡ placed_of line at word (wideAt width line at word) }
+    ensures { result ≡ placed_of line at word (wide_at width line at word) }
 {
     let columns = word.word;
     let starts = lines::starts_line(width, line.columns.0, at, columns);
@@ -193,8 +193,8 @@ fn after_newline(text: &[u8], place: usize) -> bool
 // What is wrong with the input line that starts at `start` and has this body. Its words are read once,
 // for the lines of the text after and for first fit's.
 fn judge_line(body: &[u8], after: &[u8], start: usize, width: usize) -> Lined
-    requires { (start + length body.now ≤ textMost) × (start + length body.now ≤ length after.now) × Whole body.now }
-    ensures { result ≡ linedOf width after.now start (words body.now) }
+    requires { (start + length body.now ≤ text_most) × (start + length body.now ≤ length after.now) × Whole body.now }
+    ensures { result ≡ lined_of width after.now start (words body.now) }
 {
     if body.len() == 0 {
         return Lined::Good;
@@ -223,7 +223,7 @@ fn judge_line(body: &[u8], after: &[u8], start: usize, width: usize) -> Lined
 // The first input line with more lines than needed: the first so far, or else the one that starts at
 // `start`, by what is wrong with it.
 fn many_next(many: Found, lined: Lined, start: usize) -> Found
-    ensures { result ≡ manyNext many lined start }
+    ensures { result ≡ many_next many lined start }
 {
     match lined {
         Lined::Good => many,
@@ -238,8 +238,8 @@ fn many_next(many: Found, lined: Lined, start: usize) -> Found
 // What is wrong with the input lines of a text, read one after the other: the first line that is too
 // wide, or else the first input line with more lines than needed.
 fn judge_lines(before: &[u8], after: &[u8], width: usize) -> Judged
-    requires { (length before.now ≤ textMost) × (length after.now ≡ length before.now) × Whole before.now }
-    ensures { result ≡ lines_of width before.now after.now (inputLines before.now) }
+    requires { (length before.now ≤ text_most) × (length after.now ≡ length before.now) × Whole before.now }
+    ensures { result ≡ lines_of width before.now after.now (input_lines before.now) }
 {
     let mut at = 0;
     let mut many = Found::Nowhere;
@@ -262,8 +262,8 @@ fn judge_lines(before: &[u8], after: &[u8], width: usize) -> Judged
 
 // The changes of a text, then its lines.
 fn judge_changes(before: &[u8], after: &[u8], width: usize) -> Judged
-    requires { (length before.now ≤ textMost) × (length after.now ≡ length before.now) × Whole before.now }
-    ensures { result ≡ changesOf width before.now after.now }
+    requires { (length before.now ≤ text_most) × (length after.now ≡ length before.now) × Whole before.now }
+    ensures { result ≡ changes_of width before.now after.now }
 {
     let bad = first_bad(before, after);
     if bad < before.len() {
@@ -274,7 +274,7 @@ fn judge_changes(before: &[u8], after: &[u8], width: usize) -> Judged
 
 // Whether a text after is accepted against the text before at a width.
 pub fn check(before: &[u8], after: &[u8], width: u32) -> Judged
-    ensures { result ≡ judgeOf width before.now after.now }
+    ensures { result ≡ judge_of width before.now after.now }
 {
     if TEXT_MOST < before.len() {
         return Judged::TooLong(Offset(before.len()));

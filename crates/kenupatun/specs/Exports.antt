@@ -11,26 +11,26 @@ use Rattle.words.specs.Lists as lists
 use Rattle.pieces.specs.declared.Broken.{Broken}
 use Rattle.pieces.specs.declared.OneWord.{OneWord}
 use Rattle.pieces.specs.declared.OneWord.TheVariants as one
-use Rattle.pieces.specs.Pieces.{breakApart, breakWords}
+use Rattle.pieces.specs.Pieces.{break_apart, break_words}
 use Rattle.pieces.specs.Lists as pieces
 use Rattle.fragments.specs.declared.Laid.{Laid}
 use Rattle.fragments.specs.Fragments.{fragments}
 use Rattle.fragments.specs.Answers as layouts
-use Rattle.first_fit.specs.FirstFit.{lineEnds}
-use Rattle.first_fit.specs.Entry.{firstFitOf, Lays}
+use Rattle.first_fit.specs.FirstFit.{line_ends}
+use Rattle.first_fit.specs.Entry.{first_fit_of, Lays}
 use Rattle.least_cost.specs.declared.Penalties.{Penalties}
-use Rattle.least_cost.specs.Layout.{costsOf, startsOf, endsOfLines, laid_of, endsAfter, scratchAfter}
+use Rattle.least_cost.specs.Layout.{costs_of, starts_of, ends_of_lines, laid_of, ends_after, scratch_after}
 use Rattle.fill.specs.declared.Filled.{Filled}
 use Rattle.fill.specs.Fill as fills
 use Rattle.judge.specs.Judge as judges
 use Rattle.kenupatun.specs.declared.WordAnswer.{WordAnswer}
 
 abbrev pub measured : List ℕ → Answer
-measured text = measure.answer_of (measure.measureOf text)
+measured text = measure.answer_of (measure.measure_of text)
 
 -- A text as one word: its answer, and the word in numbers. Where the text is refused all numbers of the word are 0.
-abbrev pub withWord : Answer → Word → WordAnswer
-withWord a w = record {
+abbrev pub with_word : Answer → Word → WordAnswer
+with_word a w = record {
   number = a.number;
   place = a.place;
   count = a.count;
@@ -53,8 +53,8 @@ word_in (one.Made w) = w
 word_in (one.TooLong l) = no_word
 word_in (one.NotUtf8 o) = no_word
 
-abbrev pub wordMade : List ℕ → WordAnswer
-wordMade text = withWord (pieces.wordAnswerOf (pieces.oneWordOf text)) (word_in (pieces.oneWordOf text))
+abbrev pub word_made : List ℕ → WordAnswer
+word_made text = with_word (pieces.word_answer_of (pieces.one_word_of text)) (word_in (pieces.one_word_of text))
 
 -- The places of the shortest of four lists of 32-bit numbers.
 abbrev pub room : List ℕ → List ℕ → List ℕ → List ℕ → ℕ
@@ -64,56 +64,56 @@ room a b c d = min (min (places32 a) (places32 b)) (min (places32 c) (places32 d
 abbrev pub found : List ℕ → List ℕ → List ℕ → List ℕ → List ℕ → Listed
 found text a b c d = lists.listed_of text (room a b c d)
 
-abbrev pub brokenWord : List ℕ → ℕ → List ℕ → List ℕ → List ℕ → List ℕ → Broken
-brokenWord text w a b c d = pieces.brokenOf text w (room a b c d) (breakApart text w)
+abbrev pub broken_word : List ℕ → ℕ → List ℕ → List ℕ → List ℕ → List ℕ → Broken
+broken_word text w a b c d = pieces.broken_of text w (room a b c d) (break_apart text w)
 
-abbrev pub brokenWords : List ℕ → ℕ → List ℕ → List ℕ → List ℕ → List ℕ → Broken
-brokenWords text w a b c d = pieces.brokenOf text w (room a b c d) (breakWords text w)
+abbrev pub broken_words : List ℕ → ℕ → List ℕ → List ℕ → List ℕ → List ℕ → Broken
+broken_words text w a b c d = pieces.broken_of text w (room a b c d) (break_words text w)
 
 -- Their numbers.
-abbrev pub foundAnswer : Listed → Answer
-foundAnswer answer = lists.answer_of answer
+abbrev pub found_answer : Listed → Answer
+found_answer answer = lists.answer_of answer
 
-abbrev pub brokenAnswer : Broken → Answer
-brokenAnswer answer = pieces.answer_of answer
+abbrev pub broken_answer : Broken → Answer
+broken_answer answer = pieces.answer_of answer
 
 -- A list of bytes after an answer: the numbers f of the words or pieces from its start on, and what it held after them; or, refused, all that it held.
-abbrev pub wordsLeft : Listed → (Word → ℕ) → List Word → List ℕ → List ℕ
-wordsLeft answer f ws l = lists.Finds answer (flat be32 (map f ws)) l
+abbrev pub words_left : Listed → (Word → ℕ) → List Word → List ℕ → List ℕ
+words_left answer f ws l = lists.Finds answer (flat be32 (map f ws)) l
 
-abbrev pub piecesLeft : Broken → (Word → ℕ) → List Word → List ℕ → List ℕ
-piecesLeft answer f ps l = pieces.Lists answer (flat be32 (map f ps)) l
+abbrev pub pieces_left : Broken → (Word → ℕ) → List Word → List ℕ → List ℕ
+pieces_left answer f ps l = pieces.Lists answer (flat be32 (map f ps)) l
 
 -- First fit of lists of bytes: what it answers, its numbers, and the list of ends after it.
-abbrev pub firstFit : List ℕ → List ℕ → List ℕ → List ℕ → List ℕ → Laid
-firstFit words whites penalties widths ends = firstFitOf (numbers16 words) (numbers16 whites) (numbers16 penalties) (numbers16 widths) (places16 ends)
+abbrev pub first_fit : List ℕ → List ℕ → List ℕ → List ℕ → List ℕ → Laid
+first_fit words whites penalties widths ends = first_fit_of (numbers16 words) (numbers16 whites) (numbers16 penalties) (numbers16 widths) (places16 ends)
 
-abbrev pub laidAnswer : Laid → Answer
-laidAnswer answer = layouts.answer_of answer
+abbrev pub laid_answer : Laid → Answer
+laid_answer answer = layouts.answer_of answer
 
-abbrev pub firstFitLeft : Laid → List ℕ → List ℕ → List ℕ → List ℕ → List ℕ → List ℕ
-firstFitLeft answer words whites penalties widths ends = Lays answer (flat be16 (lineEnds (numbers16 widths) (fragments (numbers16 words) (numbers16 whites) (numbers16 penalties)))) ends
+abbrev pub first_fit_left : Laid → List ℕ → List ℕ → List ℕ → List ℕ → List ℕ → List ℕ
+first_fit_left answer words whites penalties widths ends = Lays answer (flat be16 (line_ends (numbers16 widths) (fragments (numbers16 words) (numbers16 whites) (numbers16 penalties)))) ends
 
 -- Least cost of lists of bytes, w, s, p and ws being the numbers of the fragments and widths, E, C and S the bytes of ends, costs and starts: its numbers, and each of the three lists after it.
 abbrev pub five : ℕ → ℕ → ℕ → ℕ → ℕ → Penalties
 five perLine overflow fraction short hyphen = record { line = perLine; overflow = overflow; fraction = fraction; short = short; hyphen = hyphen }
 
 pub record LeastCost (w s p ws : List ℕ) (P : Penalties) (E C S : List ℕ) (r : Answer) (E' C' S' : List ℕ) : Type 0 where
-  pub answer : r ≡ laidAnswer (laid_of w s p ws P (places16 E) (places64 C) (places16 S))
-  pub ends : E' ≡ endsAfter (laid_of w s p ws P (places16 E) (places64 C) (places16 S)) (flat be16 (endsOfLines w s p ws P)) E
-  pub costs : C' ≡ scratchAfter (laid_of w s p ws P (places16 E) (places64 C) (places16 S)) (flat be64 (costsOf w s p ws P)) C
-  pub starts : S' ≡ scratchAfter (laid_of w s p ws P (places16 E) (places64 C) (places16 S)) (flat be16 (startsOf w s p ws P)) S
+  pub answer : r ≡ laid_answer (laid_of w s p ws P (places16 E) (places64 C) (places16 S))
+  pub ends : E' ≡ ends_after (laid_of w s p ws P (places16 E) (places64 C) (places16 S)) (flat be16 (ends_of_lines w s p ws P)) E
+  pub costs : C' ≡ scratch_after (laid_of w s p ws P (places16 E) (places64 C) (places16 S)) (flat be64 (costs_of w s p ws P)) C
+  pub starts : S' ≡ scratch_after (laid_of w s p ws P (places16 E) (places64 C) (places16 S)) (flat be16 (starts_of w s p ws P)) S
 
 -- The fill: what it answers, its numbers, and the text after it.
 abbrev pub fill : ℕ → List ℕ → Filled
-fill width text = fills.fillOf width text
+fill width text = fills.fill_of width text
 
-abbrev pub fillAnswer : Filled → Answer
-fillAnswer answer = fills.answer_of answer
+abbrev pub fill_answer : Filled → Answer
+fill_answer answer = fills.answer_of answer
 
-abbrev pub fillLeft : Filled → ℕ → List ℕ → List ℕ
-fillLeft answer width text = fills.leaves answer width text
+abbrev pub fill_left : Filled → ℕ → List ℕ → List ℕ
+fill_left answer width text = fills.leaves answer width text
 
 -- The check's numbers.
 abbrev pub judged : ℕ → List ℕ → List ℕ → Answer
-judged width before after = judges.answer_of (judges.judgeOf width before after)
+judged width before after = judges.answer_of (judges.judge_of width before after)

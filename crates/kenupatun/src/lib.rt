@@ -3,11 +3,11 @@
 // slice is a pointer and a length; a list of wider numbers is bytes, high first.
 ghost use Rattle.std.specs.Prelude.{◌≡◌};
 ghost use Rattle.words.specs.Words.{words};
-ghost use Rattle.words.specs.Lists.{start_of, end_of, whiteOf, widthOfWord};
-ghost use Rattle.pieces.specs.Pieces.{breakApart, breakWords};
-ghost use Rattle.kenupatun.specs.Exports.{measured, found, foundAnswer, wordMade, withWord, no_word, word_in, brokenWord, brokenWords, brokenAnswer, wordsLeft, piecesLeft};
+ghost use Rattle.words.specs.Lists.{start_of, end_of, white_of, width_of_word};
+ghost use Rattle.pieces.specs.Pieces.{break_apart, break_words};
+ghost use Rattle.kenupatun.specs.Exports.{measured, found, found_answer, word_made, with_word, no_word, word_in, broken_word, broken_words, broken_answer, words_left, pieces_left};
 ghost use Rattle.wire.specs.Wire.{numbers16};
-ghost use Rattle.kenupatun.specs.Exports.{firstFit, laidAnswer, firstFitLeft, five, LeastCost, fill, fillAnswer, fillLeft, judged};
+ghost use Rattle.kenupatun.specs.Exports.{first_fit, laid_answer, first_fit_left, five, LeastCost, fill, fill_answer, fill_left, judged};
 
 use least_cost::Penalties;
 use pieces::OneWord;
@@ -29,7 +29,7 @@ pub struct WordAnswer {
 
 // An answer with a word, in numbers.
 fn with_word(answer: Answer, word: Word) -> WordAnswer
-    ensures { result ≡ withWord answer word }
+    ensures { result ≡ with_word answer word }
 {
     WordAnswer {
         number: answer.number,
@@ -82,11 +82,11 @@ pub extern "C" fn kenupatun_words(
     whites: &mut [u8],
     widths: &mut [u8],
 ) -> Answer
-    ensures value { result ≡ foundAnswer (found text.now starts.old ends.old whites.old widths.old) }
-    ensures starts_after { starts.new ≡ wordsLeft (found text.now starts.old ends.old whites.old widths.old) start_of (words text.now) starts.old }
-    ensures ends_after { ends.new ≡ wordsLeft (found text.now starts.old ends.old whites.old widths.old) end_of (words text.now) ends.old }
-    ensures whites_after { whites.new ≡ wordsLeft (found text.now starts.old ends.old whites.old widths.old) whiteOf (words text.now) whites.old }
-    ensures widths_after { widths.new ≡ wordsLeft (found text.now starts.old ends.old whites.old widths.old) widthOfWord (words text.now) widths.old }
+    ensures value { result ≡ found_answer (found text.now starts.old ends.old whites.old widths.old) }
+    ensures starts_after { starts.new ≡ words_left (found text.now starts.old ends.old whites.old widths.old) start_of (words text.now) starts.old }
+    ensures ends_after { ends.new ≡ words_left (found text.now starts.old ends.old whites.old widths.old) end_of (words text.now) ends.old }
+    ensures whites_after { whites.new ≡ words_left (found text.now starts.old ends.old whites.old widths.old) white_of (words text.now) whites.old }
+    ensures widths_after { widths.new ≡ words_left (found text.now starts.old ends.old whites.old widths.old) width_of_word (words text.now) widths.old }
 {
     words::answer_of(word_bytes::find_words(text, starts, ends, whites, widths))
 }
@@ -94,7 +94,7 @@ pub extern "C" fn kenupatun_words(
 // A text as one word, the spaces at its end being its whitespace; or refusal 1 or 2.
 #[unsafe(no_mangle)]
 pub extern "C" fn kenupatun_word_from(text: &[u8]) -> WordAnswer
-    ensures { result ≡ wordMade text.now }
+    ensures { result ≡ word_made text.now }
 {
     let made = pieces::word_from(text);
     with_word(pieces::word_answer_of(made), word_in(made))
@@ -110,11 +110,11 @@ pub extern "C" fn kenupatun_break_word(
     whites: &mut [u8],
     widths: &mut [u8],
 ) -> Answer
-    ensures value { result ≡ brokenAnswer (brokenWord text.now width starts.old ends.old whites.old widths.old) }
-    ensures starts_after { starts.new ≡ piecesLeft (brokenWord text.now width starts.old ends.old whites.old widths.old) start_of (breakApart text.now width) starts.old }
-    ensures ends_after { ends.new ≡ piecesLeft (brokenWord text.now width starts.old ends.old whites.old widths.old) end_of (breakApart text.now width) ends.old }
-    ensures whites_after { whites.new ≡ piecesLeft (brokenWord text.now width starts.old ends.old whites.old widths.old) whiteOf (breakApart text.now width) whites.old }
-    ensures widths_after { widths.new ≡ piecesLeft (brokenWord text.now width starts.old ends.old whites.old widths.old) widthOfWord (breakApart text.now width) widths.old }
+    ensures value { result ≡ broken_answer (broken_word text.now width starts.old ends.old whites.old widths.old) }
+    ensures starts_after { starts.new ≡ pieces_left (broken_word text.now width starts.old ends.old whites.old widths.old) start_of (break_apart text.now width) starts.old }
+    ensures ends_after { ends.new ≡ pieces_left (broken_word text.now width starts.old ends.old whites.old widths.old) end_of (break_apart text.now width) ends.old }
+    ensures whites_after { whites.new ≡ pieces_left (broken_word text.now width starts.old ends.old whites.old widths.old) white_of (break_apart text.now width) whites.old }
+    ensures widths_after { widths.new ≡ pieces_left (broken_word text.now width starts.old ends.old whites.old widths.old) width_of_word (break_apart text.now width) widths.old }
 {
     pieces::answer_of(piece_bytes::break_apart(text, width, starts, ends, whites, widths))
 }
@@ -129,11 +129,11 @@ pub extern "C" fn kenupatun_break_words(
     whites: &mut [u8],
     widths: &mut [u8],
 ) -> Answer
-    ensures value { result ≡ brokenAnswer (brokenWords text.now width starts.old ends.old whites.old widths.old) }
-    ensures starts_after { starts.new ≡ piecesLeft (brokenWords text.now width starts.old ends.old whites.old widths.old) start_of (breakWords text.now width) starts.old }
-    ensures ends_after { ends.new ≡ piecesLeft (brokenWords text.now width starts.old ends.old whites.old widths.old) end_of (breakWords text.now width) ends.old }
-    ensures whites_after { whites.new ≡ piecesLeft (brokenWords text.now width starts.old ends.old whites.old widths.old) whiteOf (breakWords text.now width) whites.old }
-    ensures widths_after { widths.new ≡ piecesLeft (brokenWords text.now width starts.old ends.old whites.old widths.old) widthOfWord (breakWords text.now width) widths.old }
+    ensures value { result ≡ broken_answer (broken_words text.now width starts.old ends.old whites.old widths.old) }
+    ensures starts_after { starts.new ≡ pieces_left (broken_words text.now width starts.old ends.old whites.old widths.old) start_of (break_words text.now width) starts.old }
+    ensures ends_after { ends.new ≡ pieces_left (broken_words text.now width starts.old ends.old whites.old widths.old) end_of (break_words text.now width) ends.old }
+    ensures whites_after { whites.new ≡ pieces_left (broken_words text.now width starts.old ends.old whites.old widths.old) white_of (break_words text.now width) whites.old }
+    ensures widths_after { widths.new ≡ pieces_left (broken_words text.now width starts.old ends.old whites.old widths.old) width_of_word (break_words text.now width) widths.old }
 {
     pieces::answer_of(piece_bytes::break_words(text, width, starts, ends, whites, widths))
 }
@@ -148,8 +148,8 @@ pub extern "C" fn kenupatun_first_fit(
     widths: &[u8],
     ends: &mut [u8],
 ) -> Answer
-    ensures value { result ≡ laidAnswer (firstFit words.now whites.now penalties.now widths.now ends.old) }
-    ensures ends_after { ends.new ≡ firstFitLeft (firstFit words.now whites.now penalties.now widths.now ends.old) words.now whites.now penalties.now widths.now ends.old }
+    ensures value { result ≡ laid_answer (first_fit words.now whites.now penalties.now widths.now ends.old) }
+    ensures ends_after { ends.new ≡ first_fit_left (first_fit words.now whites.now penalties.now widths.now ends.old) words.now whites.now penalties.now widths.now ends.old }
 {
     fragments::answer_of(layout_bytes::wrap_first_fit(words, whites, penalties, widths, ends))
 }
@@ -190,8 +190,8 @@ pub extern "C" fn kenupatun_least_cost(
 // Fills a text where it stands, and counts the bytes changed; or refusal 1, 2 or 3.
 #[unsafe(no_mangle)]
 pub extern "C" fn kenupatun_fill(text: &mut [u8], width: u32) -> Answer
-    ensures value { result ≡ fillAnswer (fill width text.old) }
-    ensures text_after { text.new ≡ fillLeft (fill width text.old) width text.old }
+    ensures value { result ≡ fill_answer (fill width text.old) }
+    ensures text_after { text.new ≡ fill_left (fill width text.old) width text.old }
 {
     fill::answer_of(fill::fill_inplace(text, width))
 }

@@ -5,16 +5,16 @@ ghost use Rattle.std.proofs.lemmas.List.Edits.{sets};
 ghost use Rattle.logic.specs.Flat.{flat};
 ghost use Rattle.wire.specs.Wire.{be16, numbers16, places16};
 ghost use Rattle.fragments.specs.Fragments.{fragments};
-ghost use Rattle.fragments.specs.Lists.{firstAbove, width_of};
-ghost use Rattle.first_fit.specs.FirstFit.{lineEnds};
-ghost use Rattle.first_fit.specs.Entry.{Lists, firstFitOf, Lays};
+ghost use Rattle.fragments.specs.Lists.{first_above, width_of};
+ghost use Rattle.first_fit.specs.FirstFit.{line_ends};
+ghost use Rattle.first_fit.specs.Entry.{Lists, first_fit_of, Lays};
 
 use fragments::{Laid, Tested};
 use units::WIDTH_MOST;
 
 // The index of the first number above a bound, or how many numbers there are.
 pub fn first_above(list: &[u8], most: usize) -> usize
-    ensures { result ≡ firstAbove most (numbers16 list.now) }
+    ensures { result ≡ first_above most (numbers16 list.now) }
 {
     let n = wire::count16(list);
     let mut i = 0;
@@ -53,8 +53,8 @@ fn put_end(ends: &mut [u8], line: usize, end: usize)
 // Stores the ends of the lines of one or more fragments, and answers how many lines there are.
 fn lay(words: &[u8], whites: &[u8], penalties: &[u8], widths: &[u8], ends: &mut [u8]) -> usize
     requires { Lists (numbers16 words.now) (numbers16 whites.now) (numbers16 penalties.now) (places16 ends.old) × (0 < length (numbers16 words.now)) }
-    ensures value { result ≡ length (lineEnds (numbers16 widths.now) (fragments (numbers16 words.now) (numbers16 whites.now) (numbers16 penalties.now))) }
-    ensures ends_after { ends.new ≡ sets ends.old 0 (flat be16 (lineEnds (numbers16 widths.now) (fragments (numbers16 words.now) (numbers16 whites.now) (numbers16 penalties.now)))) }
+    ensures value { result ≡ length (line_ends (numbers16 widths.now) (fragments (numbers16 words.now) (numbers16 whites.now) (numbers16 penalties.now))) }
+    ensures ends_after { ends.new ≡ sets ends.old 0 (flat be16 (line_ends (numbers16 widths.now) (fragments (numbers16 words.now) (numbers16 whites.now) (numbers16 penalties.now)))) }
 {
     let n = wire::count16(words);
     let mut columns = wire::get16(words, 0) + wire::get16(whites, 0);
@@ -87,8 +87,8 @@ pub fn wrap_first_fit(
     widths: &[u8],
     ends: &mut [u8],
 ) -> Laid
-    ensures value { result ≡ firstFitOf (numbers16 words.now) (numbers16 whites.now) (numbers16 penalties.now) (numbers16 widths.now) (places16 ends.old) }
-    ensures ends_after { ends.new ≡ Lays result (flat be16 (lineEnds (numbers16 widths.now) (fragments (numbers16 words.now) (numbers16 whites.now) (numbers16 penalties.now)))) ends.old }
+    ensures value { result ≡ first_fit_of (numbers16 words.now) (numbers16 whites.now) (numbers16 penalties.now) (numbers16 widths.now) (places16 ends.old) }
+    ensures ends_after { ends.new ≡ Lays result (flat be16 (line_ends (numbers16 widths.now) (fragments (numbers16 words.now) (numbers16 whites.now) (numbers16 penalties.now)))) ends.old }
 {
     let n = wire::count16(words);
     let wide = first_above(widths, WIDTH_MOST as usize);

@@ -8,27 +8,27 @@ use lib.Dec.{ltb, leb}
 use lib.ListN.{length, get_or, replicate, length-replicate}
 use lib.Seq.{sets, length-sets}
 use borrow.Author.Tests.{lt-ltb, le-ltb, ltb-false, leb-true}
-use Rattle.units.specs.Limits.{widthMost, costMost}
+use Rattle.units.specs.Limits.{width_most, cost_most}
 use Rattle.logic.specs.Choice.{pick}
 use Rattle.logic.proofs.Choice.{both}
-use Rattle.logic.proofs.Count.{count-passes}
-use Rattle.fragments.specs.Lists.{firstAbove, tested_of}
+use Rattle.logic.proofs.Count.{count_passes}
+use Rattle.fragments.specs.Lists.{first_above, tested_of}
 use Rattle.fragments.specs.declared.Tested.{Tested}
 use Rattle.fragments.specs.declared.Tested.TheVariants as tested
 use Rattle.fragments.specs.declared.Laid.{Laid}
 use Rattle.fragments.specs.declared.Laid.TheVariants.{Lines, Unequal, TooMany, TooWide, BigPenalty, NoRoom, TooDear}
-use Rattle.fragments.proofs.Laws.{tested-good}
+use Rattle.fragments.proofs.Laws.{tested_good}
 use Rattle.cheapest.specs.Lines.{Falls}
-use Rattle.cheapest.specs.Table.{at, bestCosts, chosenStarts}
+use Rattle.cheapest.specs.Table.{at, best_costs, chosen_starts}
 use Rattle.cheapest.proofs.Lines.{ends_same}
-use Rattle.cheapest.proofs.Table.{table-falls, table-computed, costs-length, starts-length}
+use Rattle.cheapest.proofs.Table.{table_falls, table_computed, costs_length, starts_length}
 use Rattle.least_cost.specs.declared.Penalties.{Penalties}
 use Rattle.least_cost.specs.declared.Admission.{Admission}
 use Rattle.least_cost.specs.declared.Admission.TheVariants.{Open, Shut}
 use Rattle.least_cost.specs.Price.{price}
-use Rattle.least_cost.specs.Layout.{five, firstBig, admissionOf, lines_of, endsAfter, scratchAfter, costsOf, startsOf, endsOfLines, laid_of, Laying}
-use Rattle.least_cost.specs.Search.{Small, Even, Searchable, Writable, clearedBy, Finished}
-use Rattle.least_cost.proofs.Stores.{sets-at, sets_over}
+use Rattle.least_cost.specs.Layout.{five, first_big, admission_of, lines_of, ends_after, scratch_after, costs_of, starts_of, ends_of_lines, laid_of, Laying}
+use Rattle.least_cost.specs.Search.{Small, Even, Searchable, Writable, cleared_by, Finished}
+use Rattle.least_cost.proofs.Stores.{sets_at, sets_over}
 
 -- ---- what is known where the search is begun
 
@@ -41,12 +41,12 @@ pub record Opened (t : Tested) (big n ends costs starts : ℕ) : Type 0 where
   pub room : max 1 n ≤ ends
   pub scratch : n + 1 ≤ min costs starts
 
-pub open-says : (t : Tested) (big n ends costs starts : ℕ) → Open ≡ admissionOf t big n ends costs starts → Opened t big n ends costs starts
-unfolding admissionOf
-open-says tested.Unequal big n ends costs starts e = never (cc)
-open-says tested.TooMany big n ends costs starts e = never (cc)
-open-says (tested.TooWide i) big n ends costs starts e = never (cc)
-open-says tested.Good big n ends costs starts e =
+pub open_says : (t : Tested) (big n ends costs starts : ℕ) → Open ≡ admission_of t big n ends costs starts → Opened t big n ends costs starts
+unfolding admission_of
+open_says tested.Unequal big n ends costs starts e = never (cc)
+open_says tested.TooMany big n ends costs starts e = never (cc)
+open_says (tested.TooWide i) big n ends costs starts e = never (cc)
+open_says tested.Good big n ends costs starts e =
     both (ltb big 5)
     (λ a. let e₁ : Open ≡ Shut (BigPenalty big) = e ∙ rw a in never (cc))
     (λ a.
@@ -57,20 +57,20 @@ open-says tested.Good big n ends costs starts e =
     (λ d. let e₃ : Open ≡ Shut (NoRoom (n + 1)) = e ∙ rw (a, b, d) in never (cc))
     (λ d. record { good = refl; cheap = ltb-false big 5 a; room = ltb-false ends (max 1 n) b; scratch = ltb-false (min costs starts) (n + 1) d })))
 
-pub small-says : (P : Penalties) → 5 ≤ firstBig P → Small P
-unfolding firstBig firstAbove
-small-says P h = record { line = at_most 0 (omega arith); over = at_most 1 (omega arith); part = at_most 2 (omega arith); last = at_most 3 (omega arith); dash = at_most 4 (omega arith) }
+pub small_says : (P : Penalties) → 5 ≤ first_big P → Small P
+unfolding first_big first_above
+small_says P h = record { line = at_most 0 (omega arith); over = at_most 1 (omega arith); part = at_most 2 (omega arith); last = at_most 3 (omega arith); dash = at_most 4 (omega arith) }
   where
     at_most : (k : ℕ) → k < 5 → get_or (five P) k 0 ≤ 1000000
-    at_most k l = leb-true (get_or (five P) k 0) 1000000 (count-passes (λ x. leb x 1000000) (five P) k (omega arith))
+    at_most k l = leb-true (get_or (five P) k 0) 1000000 (count_passes (λ x. leb x 1000000) (five P) k (omega arith))
 
 -- A search that is not begun changes nothing.
-pub shut-keeps : (t : Tested) (big n ends costs starts : ℕ) (why : Laid) → Shut why ≡ admissionOf t big n ends costs starts → (vs l : List ℕ) → (l ≡ endsAfter why vs l) × (l ≡ scratchAfter why vs l)
-unfolding admissionOf
-shut-keeps tested.Unequal big n ends costs starts why e vs l = let z : why ≡ Unequal = cc in rw z (refl, refl)
-shut-keeps tested.TooMany big n ends costs starts why e vs l = let z : why ≡ TooMany = cc in rw z (refl, refl)
-shut-keeps (tested.TooWide i) big n ends costs starts why e vs l = let z : why ≡ TooWide i = cc in rw z (refl, refl)
-shut-keeps tested.Good big n ends costs starts why e vs l =
+pub shut_keeps : (t : Tested) (big n ends costs starts : ℕ) (why : Laid) → Shut why ≡ admission_of t big n ends costs starts → (vs l : List ℕ) → (l ≡ ends_after why vs l) × (l ≡ scratch_after why vs l)
+unfolding admission_of
+shut_keeps tested.Unequal big n ends costs starts why e vs l = let z : why ≡ Unequal = cc in rw z (refl, refl)
+shut_keeps tested.TooMany big n ends costs starts why e vs l = let z : why ≡ TooMany = cc in rw z (refl, refl)
+shut_keeps (tested.TooWide i) big n ends costs starts why e vs l = let z : why ≡ TooWide i = cc in rw z (refl, refl)
+shut_keeps tested.Good big n ends costs starts why e vs l =
     both (ltb big 5)
     (λ a. let e₁ : Shut why ≡ Shut (BigPenalty big) = e ∙ rw a in let z : why ≡ BigPenalty big = cc in rw z (refl, refl))
     (λ a.
@@ -84,17 +84,17 @@ shut-keeps tested.Good big n ends costs starts why e vs l =
 -- ---- the last step
 
 module _ (n : ℕ) {E C S : List ℕ} where
-  pub finish-dear : {C' S' : List ℕ} → costMost < at C n → C' ≡ sets C 0 (replicate (n + 1) 0) → S' ≡ sets S 0 (replicate (n + 1) 0) → Finished n E C S TooDear E C' S'
-  finish-dear l c s = record { answer = rw (lt-ltb costMost (at C n) l); ends = refl; costs = c; starts = s }
+  pub finish_dear : {C' S' : List ℕ} → cost_most < at C n → C' ≡ sets C 0 (replicate (n + 1) 0) → S' ≡ sets S 0 (replicate (n + 1) 0) → Finished n E C S TooDear E C' S'
+  finish_dear l c s = record { answer = rw (lt-ltb cost_most (at C n) l); ends = refl; costs = c; starts = s }
 
-  pub finish-laid : {k : ℕ} {E' : List ℕ} → at C n ≤ costMost → k ≡ length (lines_of (at S) n) → E' ≡ sets E 0 (lines_of (at S) n) → Finished n E C S (Lines k) E' C S
-  finish-laid l k e = record { answer = rw (le-ltb costMost (at C n) l, k); ends = e; costs = refl; starts = refl }
+  pub finish_laid : {k : ℕ} {E' : List ℕ} → at C n ≤ cost_most → k ≡ length (lines_of (at S) n) → E' ≡ sets E 0 (lines_of (at S) n) → Finished n E C S (Lines k) E' C S
+  finish_laid l k e = record { answer = rw (le-ltb cost_most (at C n) l, k); ends = e; costs = refl; starts = refl }
 
 -- Its scratch, over what the search wrote: what the search wrote, or zeros.
-cleared-after : (b : Bool) (k n : ℕ) (r : Laid) (vs l : List ℕ) → r ≡ pick b TooDear (Lines k) → length vs ≡ n + 1 → n < length l → clearedBy r n (sets l 0 vs) ≡ scratchAfter r vs l
-cleared-after true k n r vs l e h b =
+cleared_after : (b : Bool) (k n : ℕ) (r : Laid) (vs l : List ℕ) → r ≡ pick b TooDear (Lines k) → length vs ≡ n + 1 → n < length l → cleared_by r n (sets l 0 vs) ≡ scratch_after r vs l
+cleared_after true k n r vs l e h b =
     rw (e, h) (sets_over l vs (replicate (n + 1) 0) (h ∙ sym (length-replicate (n + 1) 0)) (omega arith))
-cleared-after false k n r vs l e h b = rw e
+cleared_after false k n r vs l e h b = rw e
 
 lines_same : (s t : ℕ → ℕ) (n : ℕ) → Falls s n → ((k : ℕ) → k ≤ n → s k ≡ t k) → lines_of s n ≡ lines_of t n
 lines_same s t zero f e = refl
@@ -104,93 +104,93 @@ lines_same s t (suc n) f e = ends_same s t (suc n) f e
 
 -- The tests have said `a`.
 pub record Told (w s p ws : List ℕ) (P : Penalties) (E C S : List ℕ) (a : Admission) : Type 0 where
-  pub says : a ≡ admissionOf (tested_of (length w) (length s) (length p) (firstAbove widthMost ws) (length ws)) (firstBig P) (length w) (length E) (length C) (length S)
+  pub says : a ≡ admission_of (tested_of (length w) (length s) (length p) (first_above width_most ws) (length ws)) (first_big P) (length w) (length E) (length C) (length S)
 
 module _ {w s p ws : List ℕ} {P : Penalties} {E C S : List ℕ} {a : Admission} where
-  pub laying-told : {wide big : ℕ} {t : Tested} → wide ≡ firstAbove widthMost ws → t ≡ tested_of (length w) (length s) (length p) wide (length ws) → big ≡ firstBig P
-      → a ≡ admissionOf t big (length w) (length E) (length C) (length S) → Told w s p ws P E C S a
-  laying-told ew et eb ea = record { says = ea ∙ rw (et, ew, eb) }
+  pub laying_told : {wide big : ℕ} {t : Tested} → wide ≡ first_above width_most ws → t ≡ tested_of (length w) (length s) (length p) wide (length ws) → big ≡ first_big P
+      → a ≡ admission_of t big (length w) (length E) (length C) (length S) → Told w s p ws P E C S a
+  laying_told ew et eb ea = record { says = ea ∙ rw (et, ew, eb) }
 
-  pub laying-shut : {why : Laid} → Told w s p ws P E C S a → a ≡ Shut why → Laying w s p ws P E C S why E C S
+  pub laying_shut : {why : Laid} → Told w s p ws P E C S a → a ≡ Shut why → Laying w s p ws P E C S why E C S
   unfolding laid_of
-  laying-shut {why} told h =
+  laying_shut {why} told h =
       let e = sym h ∙ told.says in
-      let k = shut-keeps _ _ _ _ _ _ why e in
+      let k = shut_keeps _ _ _ _ _ _ why e in
       record {
         answer = rw (← e);
-        ends = (k (endsOfLines w s p ws P) E).0;
-        costs = (k (costsOf w s p ws P) C).1;
-        starts = (k (startsOf w s p ws P) S).1;
+        ends = (k (ends_of_lines w s p ws P) E).0;
+        costs = (k (costs_of w s p ws P) C).1;
+        starts = (k (starts_of w s p ws P) S).1;
       }
 
   module _ (told : Told w s p ws P E C S a) (h : a ≡ Open) where
-    opened : Opened (tested_of (length w) (length s) (length p) (firstAbove widthMost ws) (length ws)) (firstBig P) (length w) (length E) (length C) (length S)
-    opened = open-says _ _ _ _ _ _ (sym h ∙ told.says)
+    opened : Opened (tested_of (length w) (length s) (length p) (first_above width_most ws) (length ws)) (first_big P) (length w) (length E) (length C) (length S)
+    opened = open_says _ _ _ _ _ _ (sym h ∙ told.says)
 
     even : Even w s p
     even =
-        let g = (tested-good (length w) (length s) (length p) (firstAbove widthMost ws) (length ws) refl opened.good).0 in
-        record { whites = g.whites-same; penalties = g.penalties-same; few = g.few }
+        let g = (tested_good (length w) (length s) (length p) (first_above width_most ws) (length ws) refl opened.good).0 in
+        record { whites = g.whites_same; penalties = g.penalties_same; few = g.few }
 
-    pub laying-search : Searchable w s p P C S
-    laying-search = record {
-      small = small-says P opened.cheap;
+    pub laying_search : Searchable w s p P C S
+    laying_search = record {
+      small = small_says P opened.cheap;
       even = even;
       costs = omega (arith, opened.scratch);
       starts = omega (arith, opened.scratch);
     }
 
-    module _ {C₁ S₁ : List ℕ} (ec : C₁ ≡ sets C 0 (costsOf w s p ws P)) (es : S₁ ≡ sets S 0 (startsOf w s p ws P)) where
-      costs-long : length (costsOf w s p ws P) ≡ length w + 1
-      unfolding costsOf
-      costs-long = costs-length (price w s p ws P) (length w)
+    module _ {C₁ S₁ : List ℕ} (ec : C₁ ≡ sets C 0 (costs_of w s p ws P)) (es : S₁ ≡ sets S 0 (starts_of w s p ws P)) where
+      costs_long : length (costs_of w s p ws P) ≡ length w + 1
+      unfolding costs_of
+      costs_long = costs_length (price w s p ws P) (length w)
 
-      starts-long : length (startsOf w s p ws P) ≡ length w + 1
-      unfolding startsOf
-      starts-long = starts-length (price w s p ws P) (length w)
+      starts_long : length (starts_of w s p ws P) ≡ length w + 1
+      unfolding starts_of
+      starts_long = starts_length (price w s p ws P) (length w)
 
-      cost-is : at C₁ (length w) ≡ at (costsOf w s p ws P) (length w)
-      cost-is = rw ec (sets-at C (costsOf w s p ws P) (length w) (omega (arith, costs-long)) (omega (arith, costs-long, opened.scratch)))
+      cost_is : at C₁ (length w) ≡ at (costs_of w s p ws P) (length w)
+      cost_is = rw ec (sets_at C (costs_of w s p ws P) (length w) (omega (arith, costs_long)) (omega (arith, costs_long, opened.scratch)))
 
-      start_is : (k : ℕ) → k ≤ length w → at S₁ k ≡ at (startsOf w s p ws P) k
-      start_is k l = rw es (sets-at S (startsOf w s p ws P) k (omega (arith, starts-long)) (omega (arith, starts-long, opened.scratch)))
+      start_is : (k : ℕ) → k ≤ length w → at S₁ k ≡ at (starts_of w s p ws P) k
+      start_is k l = rw es (sets_at S (starts_of w s p ws P) k (omega (arith, starts_long)) (omega (arith, starts_long, opened.scratch)))
 
-      starts-fall : Falls (at (startsOf w s p ws P)) (length w)
-      unfolding startsOf
-      starts-fall =
+      starts_fall : Falls (at (starts_of w s p ws P)) (length w)
+      unfolding starts_of
+      starts_fall =
           let q = price w s p ws P in
-          table-falls q (length w) (at (bestCosts q (length w))) (at (chosenStarts q (length w))) (table-computed q (length w))
+          table_falls q (length w) (at (best_costs q (length w))) (at (chosen_starts q (length w))) (table_computed q (length w))
 
       falls : Falls (at S₁) (length w)
-      falls k z l = rw (start_is k l) (starts-fall k z l)
+      falls k z l = rw (start_is k l) (starts_fall k z l)
 
-      pub laying-write : Writable S₁ (length w) E
-      laying-write = record {
-        starts = rw es (omega (arith, length-sets S 0 (startsOf w s p ws P), opened.scratch));
+      pub laying_write : Writable S₁ (length w) E
+      laying_write = record {
+        starts = rw es (omega (arith, length-sets S 0 (starts_of w s p ws P), opened.scratch));
         falls = falls;
         few = even.few;
         room = omega (arith, opened.room);
         place = omega (arith, opened.room);
       }
 
-      pub laying-cost : length w < length C₁
-      laying-cost = rw ec (omega (arith, length-sets C 0 (costsOf w s p ws P), opened.scratch))
+      pub laying_cost : length w < length C₁
+      laying_cost = rw ec (omega (arith, length-sets C 0 (costs_of w s p ws P), opened.scratch))
 
-      lines_are : lines_of (at S₁) (length w) ≡ endsOfLines w s p ws P
-      unfolding endsOfLines
-      lines_are = lines_same (at S₁) (at (startsOf w s p ws P)) (length w) falls start_is
+      lines_are : lines_of (at S₁) (length w) ≡ ends_of_lines w s p ws P
+      unfolding ends_of_lines
+      lines_are = lines_same (at S₁) (at (starts_of w s p ws P)) (length w) falls start_is
 
-      pub laying-done : {r : Laid} {E' C' S' : List ℕ} → Finished (length w) E C₁ S₁ r E' C' S' → Laying w s p ws P E C S r E' C' S'
+      pub laying_done : {r : Laid} {E' C' S' : List ℕ} → Finished (length w) E C₁ S₁ r E' C' S' → Laying w s p ws P E C S r E' C' S'
       unfolding laid_of
-      laying-done {r} {E'} {C'} {S'} f =
+      laying_done {r} {E'} {C'} {S'} f =
           let e = sym h ∙ told.says in
-          let b = ltb costMost (at C₁ (length w)) in
+          let b = ltb cost_most (at C₁ (length w)) in
           let k = length (lines_of (at S₁) (length w)) in
           record {
-            answer = f.answer ∙ rw (← e, cost-is, lines_are);
-            ends = f.ends ∙ ap (λ (x : List ℕ). endsAfter r x E) lines_are;
-            costs = f.costs ∙ rw ec (cleared-after b k (length w) r (costsOf w s p ws P) C f.answer costs-long (omega (arith, opened.scratch)));
-            starts = f.starts ∙ rw es (cleared-after b k (length w) r (startsOf w s p ws P) S f.answer starts-long (omega (arith, opened.scratch)));
+            answer = f.answer ∙ rw (← e, cost_is, lines_are);
+            ends = f.ends ∙ ap (λ (x : List ℕ). ends_after r x E) lines_are;
+            costs = f.costs ∙ rw ec (cleared_after b k (length w) r (costs_of w s p ws P) C f.answer costs_long (omega (arith, opened.scratch)));
+            starts = f.starts ∙ rw es (cleared_after b k (length w) r (starts_of w s p ws P) S f.answer starts_long (omega (arith, opened.scratch)));
           }
 
-pub ruleset laying = (laying-told, laying-shut, laying-search, laying-write, laying-cost, laying-done)
+pub ruleset laying = (laying_told, laying_shut, laying_search, laying_write, laying_cost, laying_done)

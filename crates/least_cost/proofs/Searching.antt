@@ -14,14 +14,14 @@ use Rattle.logic.proofs.Choice.{both}
 use Rattle.cheapest.specs.Least.{Cheapest}
 use Rattle.cheapest.specs.Table.{at}
 use Rattle.least_cost.specs.declared.Penalties.{Penalties}
-use Rattle.least_cost.specs.Price.{lineLen, widthPrice, endingPrice, linePrice, priceAt}
-use Rattle.least_cost.specs.Search.{Priceable, Weighable, Hopeless, Ready, startPrice}
-use Rattle.least_cost.proofs.Lengths.{len-one, len_more, len_grows, len-split}
+use Rattle.least_cost.specs.Price.{line_len, width_price, ending_price, line_price, price_at}
+use Rattle.least_cost.specs.Search.{Priceable, Weighable, Hopeless, Ready, start_price}
+use Rattle.least_cost.proofs.Lengths.{len_one, len_more, len_grows, len_split}
 
 -- No price is below its overflow.
-pub price-low : (P : Penalties) (T L h i j n : ℕ) → P.line + P.overflow * (L - T) ≤ linePrice P T L h i j n
-unfolding linePrice widthPrice
-price-low P T L h i j n =
+pub price_low : (P : Penalties) (T L h i j n : ℕ) → P.line + P.overflow * (L - T) ≤ line_price P T L h i j n
+unfolding line_price width_price
+price_low P T L h i j n =
     both (ltb T L)
     (λ t. rw t (omega arith))
     (λ t.
@@ -29,13 +29,13 @@ price-low P T L h i j n =
     rw z (omega arith))
 
 -- The price of a line that does not end the text: where it overflows, and at most where it does not.
-line-over : (P : Penalties) (T L h i j n e : ℕ) → ltb T L ≡ true → endingPrice P h ≡ e → linePrice P T L h i j n ≡ P.line + P.overflow * (L - T) + e
-unfolding linePrice widthPrice
-line-over P T L h i j n e c q = rw (c, q)
+line_over : (P : Penalties) (T L h i j n e : ℕ) → ltb T L ≡ true → ending_price P h ≡ e → line_price P T L h i j n ≡ P.line + P.overflow * (L - T) + e
+unfolding line_price width_price
+line_over P T L h i j n e c q = rw (c, q)
 
-line-gap : (P : Penalties) (T L h i j n e most : ℕ) → ltb T L ≡ false → endingPrice P h ≡ e → j < n → T ≤ most → linePrice P T L h i j n ≤ P.line + most * most + e
-unfolding linePrice widthPrice
-line-gap P T L h i j n e most c q l m =
+line_gap : (P : Penalties) (T L h i j n e most : ℕ) → ltb T L ≡ false → ending_price P h ≡ e → j < n → T ≤ most → line_price P T L h i j n ≤ P.line + most * most + e
+unfolding line_price width_price
+line_gap P T L h i j n e most c q l m =
     let x : (T - L) * (T - L) ≤ most * most = mul-le-mul (let y : T - L ≤ most = omega arith in y) (let y : T - L ≤ most = omega arith in y) in
     let z : j ≡ n → ⊥ = λ u. absurd (omega arith) in
     rw (c, ne_eqb j n z, q) (omega arith)
@@ -47,23 +47,23 @@ module _ (w s p : List ℕ) (P : Penalties) (T C : List ℕ) (widest j : ℕ) wh
     pub ready : Ready w s p P T widest C j
     pub last : tail ≡ get_or p (j - 1) 0
     pub below : i < j
-    pub chosen-low : i ≤ from
-    pub chosen-high : from < j
-    pub wide : len ≡ lineLen w s p i j
+    pub chosen_low : i ≤ from
+    pub chosen_high : from < j
+    pub wide : len ≡ line_len w s p i j
     pub cap : len ≤ 131070 * (j - i)
     pub small : best ≤ 2 ^ 51
-    pub value : best ≡ startPrice w s p P T C j from
-    pub least : (k : ℕ) → i ≤ k → k < j → best ≤ startPrice w s p P T C j k
-    pub first : (k : ℕ) → i ≤ k → k < from → best < startPrice w s p P T C j k
+    pub value : best ≡ start_price w s p P T C j from
+    pub least : (k : ℕ) → i ≤ k → k < j → best ≤ start_price w s p P T C j k
+    pub first : (k : ℕ) → i ≤ k → k < from → best < start_price w s p P T C j k
 
   -- The price that the code finds is that of the start.
-  found : (i L h r : ℕ) → L ≡ lineLen w s p i j → h ≡ get_or p (j - 1) 0 → r ≡ at C i + linePrice P (at T i) L h i j (length w) → r ≡ startPrice w s p P T C j i
-  unfolding startPrice priceAt
+  found : (i L h r : ℕ) → L ≡ line_len w s p i j → h ≡ get_or p (j - 1) 0 → r ≡ at C i + line_price P (at T i) L h i j (length w) → r ≡ start_price w s p P T C j i
+  unfolding start_price price_at
   found i L h r el eh er = er ∙ rw (el, eh)
 
   -- A start before j can be priced.
-  pub start-ready : {L i : ℕ} → Ready w s p P T widest C j → L ≤ 2 ^ 30 → i < j → Priceable P T C L i
-  start-ready {L} {i} ready l b = record {
+  pub start_ready : {L i : ℕ} → Ready w s p P T widest C j → L ≤ 2 ^ 30 → i < j → Priceable P T C L i
+  start_ready {L} {i} ready l b = record {
     sized = record {
       small = ready.small;
       target = omega (arith, ready.narrow i b, ready.most);
@@ -75,18 +75,18 @@ module _ (w s p : List ℕ) (P : Penalties) (T C : List ℕ) (widest j : ℕ) wh
   }
 
   -- The last start alone.
-  pub pulled-start : {a r h : ℕ} → Ready w s p P T widest C j → a ≡ get_or w (j - 1) 0 + get_or p (j - 1) 0 → a ≤ 131070 → r ≡ at C (j - 1) + linePrice P (at T (j - 1)) a h (j - 1) j (length w) → r ≤ 2 ^ 51 → h ≡ get_or p (j - 1) 0
+  pub pulled_start : {a r h : ℕ} → Ready w s p P T widest C j → a ≡ get_or w (j - 1) 0 + get_or p (j - 1) 0 → a ≤ 131070 → r ≡ at C (j - 1) + line_price P (at T (j - 1)) a h (j - 1) j (length w) → r ≤ 2 ^ 51 → h ≡ get_or p (j - 1) 0
       → Pulled h a r (j - 1) (j - 1)
-  pulled-start {a} {r} {h} ready ea la er lr eh =
+  pulled_start {a} {r} {h} ready ea la er lr eh =
       let z : suc (j - 1) ≡ j = omega (arith, ready.above) in
-      let l : a ≡ lineLen w s p (j - 1) j = ea ∙ sym (rw z at (len-one w s p ready.even (j - 1) (omega (arith, ready.within)))) in
+      let l : a ≡ line_len w s p (j - 1) j = ea ∙ sym (rw z at (len_one w s p ready.even (j - 1) (omega (arith, ready.within)))) in
       let f = found (j - 1) a h r l eh er in
       record {
         ready = ready;
         last = eh;
         below = omega arith;
-        chosen-low = omega arith;
-        chosen-high = omega arith;
+        chosen_low = omega arith;
+        chosen_high = omega arith;
         wide = l;
         cap = omega arith;
         small = lr;
@@ -97,13 +97,13 @@ module _ (w s p : List ℕ) (P : Penalties) (T C : List ℕ) (widest j : ℕ) wh
 
   -- One start lower: i - 1, whose fragment is a wide with its whitespace.
   module _ {tail len best from i a : ℕ} (h : Pulled tail len best from i) (up : 0 < i) (ea : a ≡ get_or w (i - 1) 0 + get_or s (i - 1) 0) (la : a ≤ 131070) where
-    longer : len + a ≡ lineLen w s p (i - 1) j
+    longer : len + a ≡ line_len w s p (i - 1) j
     longer =
         let z : suc (i - 1) ≡ i = omega arith in
         omega (arith, h.wide, rw z at (len_more w s p h.ready.even (i - 1) j (omega (arith, h.below)) h.ready.within))
 
-    pub pulled-fits : len + a ≤ 2 ^ 30
-    pulled-fits = omega (arith, h.cap, h.below, h.ready.within, h.ready.even.few)
+    pub pulled_fits : len + a ≤ 2 ^ 30
+    pulled_fits = omega (arith, h.cap, h.below, h.ready.within, h.ready.even.few)
 
     -- Each start from i - 1 on is i - 1 itself, or was there before.
     lower : (Q : ℕ → Type 0) → Q (i - 1) → ((k : ℕ) → i ≤ k → Q k) → (k : ℕ) → i - 1 ≤ k → Q k
@@ -113,44 +113,44 @@ module _ (w s p : List ℕ) (P : Penalties) (T C : List ℕ) (widest j : ℕ) wh
         (eq-or-lt_of_le b)
 
     -- It is as cheap as the best so far, or cheaper: it is chosen.
-    pub pulled-win : {r : ℕ} → r ≡ at C (i - 1) + linePrice P (at T (i - 1)) (len + a) tail (i - 1) j (length w) → r ≤ 2 ^ 51 → r ≤ best
+    pub pulled_win : {r : ℕ} → r ≡ at C (i - 1) + line_price P (at T (i - 1)) (len + a) tail (i - 1) j (length w) → r ≤ 2 ^ 51 → r ≤ best
         → Pulled tail (len + a) r (i - 1) (i - 1)
-    pulled-win {r} er lr le =
+    pulled_win {r} er lr le =
         let f = found (i - 1) (len + a) tail r longer h.last er in
         record {
           ready = h.ready;
           last = h.last;
           below = omega (arith, h.below);
-          chosen-low = omega arith;
-          chosen-high = omega (arith, h.below);
+          chosen_low = omega arith;
+          chosen_high = omega (arith, h.below);
           wide = longer;
           cap = omega (arith, h.cap, h.below);
           small = lr;
           value = f;
-          least = lower (λ k. k < j → r ≤ startPrice w s p P T C j k) (λ b. omega arith) (λ k b m. omega (arith, h.least k b m));
+          least = lower (λ k. k < j → r ≤ start_price w s p P T C j k) (λ b. omega arith) (λ k b m. omega (arith, h.least k b m));
           first = λ k b m. absurd (omega arith);
         }
 
     -- It is dearer: the choice stands.
-    pub pulled-lose : {r : ℕ} → r ≡ at C (i - 1) + linePrice P (at T (i - 1)) (len + a) tail (i - 1) j (length w) → best < r → Pulled tail (len + a) best from (i - 1)
-    pulled-lose {r} er lt =
+    pub pulled_lose : {r : ℕ} → r ≡ at C (i - 1) + line_price P (at T (i - 1)) (len + a) tail (i - 1) j (length w) → best < r → Pulled tail (len + a) best from (i - 1)
+    pulled_lose {r} er lt =
         let f = found (i - 1) (len + a) tail r longer h.last er in
         record {
           ready = h.ready;
           last = h.last;
           below = omega (arith, h.below);
-          chosen-low = omega (arith, h.chosen-low);
-          chosen-high = h.chosen-high;
+          chosen_low = omega (arith, h.chosen_low);
+          chosen_high = h.chosen_high;
           wide = longer;
           cap = omega (arith, h.cap, h.below);
           small = h.small;
           value = h.value;
-          least = lower (λ k. k < j → best ≤ startPrice w s p P T C j k) (λ b. omega arith) (λ k b m. h.least k b m);
-          first = lower (λ k. k < from → best < startPrice w s p P T C j k) (λ b. omega arith) (λ k b m. h.first k b m);
+          least = lower (λ k. k < j → best ≤ start_price w s p P T C j k) (λ b. omega arith) (λ k b m. h.least k b m);
+          first = lower (λ k. k < from → best < start_price w s p P T C j k) (λ b. omega arith) (λ k b m. h.first k b m);
         }
 
-  pub pulled-weigh : {tail len best from i t : ℕ} → Pulled tail len best from i → t ≤ 65535 → Weighable P widest len t (at C i) best
-  pulled-weigh {tail} {len} {best} {from} {i} h l = record {
+  pub pulled_weigh : {tail len best from i t : ℕ} → Pulled tail len best from i → t ≤ 65535 → Weighable P widest len t (at C i) best
+  pulled_weigh {tail} {len} {best} {from} {i} h l = record {
     small = h.ready.small;
     most = h.ready.most;
     len = omega (arith, h.cap, h.below, h.ready.within, h.ready.even.few);
@@ -161,50 +161,50 @@ module _ (w s p : List ℕ) (P : Penalties) (T C : List ℕ) (widest j : ℕ) wh
 
   -- A start below i costs at least what i does, less the line that leads to i, and its line overflows by more.
   module _ {tail len best from i t : ℕ} (h : Pulled tail len best from i) (up : 0 < i) (et : t ≡ get_or p (i - 1) 0) (d : Hopeless P widest len t (at C i) best) where
-    below : (k : ℕ) → k < i → best < startPrice w s p P T C j k
-    unfolding startPrice priceAt
+    below : (k : ℕ) → k < i → best < start_price w s p P T C j k
+    unfolding start_price price_at
     below k b =
-        let Lki = lineLen w s p k i in
-        let Lkj = lineLen w s p k j in
+        let Lki = line_len w s p k i in
+        let Lkj = line_len w s p k j in
         let n = length w in
-        let e = endingPrice P t in
+        let e = ending_price P t in
         let bar = max widest t in
-        let low = price-low P (at T k) Lkj (get_or p (j - 1) 0) k j n in
-        let ends : endingPrice P (get_or p (i - 1) 0) ≡ e = ap (λ (x : ℕ). endingPrice P x) (sym et) in
+        let low = price_low P (at T k) Lkj (get_or p (j - 1) 0) k j n in
+        let ends : ending_price P (get_or p (i - 1) 0) ≡ e = ap (λ (x : ℕ). ending_price P x) (sym et) in
         let up_to_lem = h.ready.least i k b h.below in
         let narrow = h.ready.narrow k (omega (arith, h.below)) in
-        let split = len-split w s p h.ready.even k i j b h.below h.ready.within in
+        let split = len_split w s p h.ready.even k i j b h.below h.ready.within in
         let grows = len_grows w s p h.ready.even k i j (omega arith) h.below h.ready.within in
         both (ltb (at T k) Lki)
         (λ c.
         let l = ltb-true (at T k) Lki c in
-        let w₁ : linePrice P (at T k) Lki (get_or p (i - 1) 0) k i n ≡ P.line + P.overflow * (Lki - at T k) + e = line-over P (at T k) Lki (get_or p (i - 1) 0) k i n e c ends in
+        let w₁ : line_price P (at T k) Lki (get_or p (i - 1) 0) k i n ≡ P.line + P.overflow * (Lki - at T k) + e = line_over P (at T k) Lki (get_or p (i - 1) 0) k i n e c ends in
         let x : (Lki - at T k) + (len - bar) ≤ Lkj - at T k = omega (arith, d.over, h.wide) in
         let m : P.overflow * ((Lki - at T k) + (len - bar)) ≤ P.overflow * (Lkj - at T k) = mul-le-mul (le_refl P.overflow) x in
         omega (arith, d.dear, mul-add P.overflow (Lki - at T k) (len - bar)))
         (λ c.
         let l = ltb-false (at T k) Lki c in
-        let w₂ : linePrice P (at T k) Lki (get_or p (i - 1) 0) k i n ≤ P.line + widest * widest + e =
-        line-gap P (at T k) Lki (get_or p (i - 1) 0) k i n e widest c ends (omega (arith, h.below, h.ready.within)) narrow in
+        let w₂ : line_price P (at T k) Lki (get_or p (i - 1) 0) k i n ≤ P.line + widest * widest + e =
+        line_gap P (at T k) Lki (get_or p (i - 1) 0) k i n e widest c ends (omega (arith, h.below, h.ready.within)) narrow in
         let x : len - bar ≤ Lkj - at T k = omega (arith, h.wide) in
         let m : P.overflow * (len - bar) ≤ P.overflow * (Lkj - at T k) = mul-le-mul (le_refl P.overflow) x in
         omega (arith, d.dear))
 
-    pub pulled-cut : Cheapest (startPrice w s p P T C j) j from best
-    pulled-cut = record {
-      below = h.chosen-high;
+    pub pulled_cut : Cheapest (start_price w s p P T C j) j from best
+    pulled_cut = record {
+      below = h.chosen_high;
       value = h.value;
       least = λ k m. elim (dec_lt k i) [ yes l ↦ omega (arith, below k l) | no l ↦ h.least k (omega arith) m ];
       first = λ k m. elim (dec_lt k i) [ yes l ↦ below k l | no l ↦ h.first k (omega arith) m ];
     }
 
   -- No start is left.
-  pub pulled-end : {tail len best from i : ℕ} → Pulled tail len best from i → i ≤ 0 → Cheapest (startPrice w s p P T C j) j from best
-  pulled-end h z = record {
-    below = h.chosen-high;
+  pub pulled_end : {tail len best from i : ℕ} → Pulled tail len best from i → i ≤ 0 → Cheapest (start_price w s p P T C j) j from best
+  pulled_end h z = record {
+    below = h.chosen_high;
     value = h.value;
     least = λ k m. h.least k (omega arith) m;
     first = λ k m. h.first k (omega arith) m;
   }
 
-pub ruleset pulling = (start-ready, pulled-start, pulled-fits, pulled-win, pulled-lose, pulled-cut, pulled-end)
+pub ruleset pulling = (start_ready, pulled_start, pulled_fits, pulled_win, pulled_lose, pulled_cut, pulled_end)

@@ -7,15 +7,15 @@ use native.Mathlib.Nat.{zero-add}
 use native.Mathlib.Omega.{arith}
 use lib.ListN.{length, get_or, set, drop, get_or-append}
 use lib.Seq.{sets, length-sets, sets-eq, set-set, set_comm, drop_at}
-use Rattle.logic.proofs.Stored.{sets-append}
+use Rattle.logic.proofs.Stored.{sets_append}
 
 -- One more at the end.
-pub sets-snoc : (l vs : List ℕ) (k v : ℕ) → k ≡ length vs → set (sets l 0 vs) k v ≡ sets l 0 (vs ++ (v ∷ []))
-sets-snoc l vs k v e = rw (sets-append l 0 vs (v ∷ []), zero-add, e)
+pub sets_snoc : (l vs : List ℕ) (k v : ℕ) → k ≡ length vs → set (sets l 0 vs) k v ≡ sets l 0 (vs ++ (v ∷ []))
+sets_snoc l vs k v e = rw (sets_append l 0 vs (v ∷ []), zero-add, e)
 
 -- What was stored is there.
-pub sets-at : (l vs : List ℕ) (k : ℕ) → k < length vs → length vs ≤ length l → get_or (sets l 0 vs) k 0 ≡ get_or vs k 0
-sets-at l vs k h b =
+pub sets_at : (l vs : List ℕ) (k : ℕ) → k < length vs → length vs ≤ length l → get_or (sets l 0 vs) k 0 ≡ get_or vs k 0
+sets_at l vs k h b =
     let m : 0 + length vs ≤ length l = omega arith in
     rw (sets-eq vs l 0 m) (get_or-append vs (drop (0 + length vs) l) 0 k h)
 
@@ -37,8 +37,8 @@ sets_over l xs ys e b =
     ∙ sym (sets-eq ys l 0 g)
 
 -- A store behind them all may come before or after them.
-pub set-behind : (l : List ℕ) (i : ℕ) (xs : List ℕ) (k v : ℕ) → i + length xs ≤ k → sets (set l k v) i xs ≡ set (sets l i xs) k v
-set-behind l i [] k v h = refl
-set-behind l i (x ∷ xs) k v h =
+pub set_behind : (l : List ℕ) (i : ℕ) (xs : List ℕ) (k v : ℕ) → i + length xs ≤ k → sets (set l k v) i xs ≡ set (sets l i xs) k v
+set_behind l i [] k v h = refl
+set_behind l i (x ∷ xs) k v h =
     let n : k ≢ i = omega arith in
-    rw (set_comm l k i v x n) (set-behind (set l i x) (suc i) xs k v (omega arith))
+    rw (set_comm l k i v x n) (set_behind (set l i x) (suc i) xs k v (omega arith))

@@ -5,21 +5,21 @@ use Prim.Native.Nat.{ℕ, zero, suc, ◌+◌, ◌-◌, ◌≤◌, ◌<◌}
 use native.Mathlib.Omega.{arith}
 use lib.ListN.{length, set, replicate, length-set, length-replicate, replicate-append-replicate}
 use lib.Seq.{sets}
-use Rattle.cheapest.specs.Lines.{Falls, line_of, endsOf}
+use Rattle.cheapest.specs.Lines.{Falls, line_of, ends_of}
 use Rattle.cheapest.specs.Table.{at}
-use Rattle.cheapest.proofs.Lines.{line-next, line-le, line-zero, ends-zero, ends_next, ends-length}
+use Rattle.cheapest.proofs.Lines.{line_next, line_le, line_zero, ends_zero, ends_next, ends_length}
 use Rattle.least_cost.specs.Layout.{lines_of}
 use Rattle.least_cost.specs.Search.{Writable}
-use Rattle.least_cost.proofs.Stores.{sets-snoc, set-behind}
+use Rattle.least_cost.proofs.Stores.{sets_snoc, set_behind}
 
 -- No fragments have one line, with end 0.
 pub lines_none : (s : ℕ → ℕ) (n : ℕ) (E : List ℕ) {E' : List ℕ} → n ≡ 0 → E' ≡ set E 0 0 → (1 ≡ length (lines_of s n)) × (E' ≡ sets E 0 (lines_of s n))
 lines_none s zero E e q = (refl, q)
 lines_none s (suc n) E e q = absurd (omega arith)
 
-lines-some : (s : ℕ → ℕ) (n : ℕ) → 0 < n → lines_of s n ≡ endsOf s n
-lines-some s zero l = absurd (omega arith)
-lines-some s (suc n) l = refl
+lines_some : (s : ℕ → ℕ) (n : ℕ) → 0 < n → lines_of s n ≡ ends_of s n
+lines_some s zero l = absurd (omega arith)
+lines_some s (suc n) l = refl
 
 -- So many lines were counted from n back to `end`, and those before `end` are still to be counted.
 pub record Counted (S : List ℕ) (n lines end : ℕ) : Type 0 where
@@ -34,13 +34,13 @@ module _ (S : List ℕ) (n : ℕ) where
   counted_start l f = record { falls = f; starts = l; to = omega arith; sum = omega arith; few = omega arith }
 
   module _ {lines end v : ℕ} (h : Counted S n lines end) (up : 0 < end) (e : v ≡ at S end) where
-    pub counted-less : v < end
-    counted-less = omega (arith, h.falls end up h.to)
+    pub counted_less : v < end
+    counted_less = omega (arith, h.falls end up h.to)
 
     pub counted_step : Counted S n (lines + 1) v
     counted_step =
-        let m : line_of (at S) end ≡ line_of (at S) (at S end) + 1 = line-next (at S) end (λ k z l. h.falls k z (omega (arith, h.to))) up in
-        let l = counted-less in
+        let m : line_of (at S) end ≡ line_of (at S) (at S end) + 1 = line_next (at S) end (λ k z l. h.falls k z (omega (arith, h.to))) up in
+        let l = counted_less in
         record {
           falls = h.falls;
           starts = h.starts;
@@ -49,12 +49,12 @@ module _ (S : List ℕ) (n : ℕ) where
           few = omega (arith, h.few);
         }
 
-  pub counted-end : {lines end : ℕ} → Counted S n lines end → end ≤ 0 → lines ≡ line_of (at S) n
-  counted-end {lines} {end} h z =
+  pub counted_end : {lines end : ℕ} → Counted S n lines end → end ≤ 0 → lines ≡ line_of (at S) n
+  counted_end {lines} {end} h z =
       let y : end ≡ 0 = omega arith in
-      omega (arith, h.sum, line-zero (at S), ap (λ (k : ℕ). line_of (at S) k) y)
+      omega (arith, h.sum, line_zero (at S), ap (λ (k : ℕ). line_of (at S) k) y)
 
-pub ruleset counting-lines = (counted_start, counted-less, counted_step, counted-end)
+pub ruleset counting-lines = (counted_start, counted_less, counted_step, counted_end)
 
 -- E has come of E₀; the lines before `end` are still to be written, and there are `line` of them.
 pub record Writing (S : List ℕ) (n : ℕ) (E₀ E : List ℕ) (line end : ℕ) : Type 0 where
@@ -64,7 +64,7 @@ pub record Writing (S : List ℕ) (n : ℕ) (E₀ E : List ℕ) (line end : ℕ)
   pub room : n ≤ length E
   pub to : end ≤ n
   pub count : line ≡ line_of (at S) end
-  pub same : sets E 0 (endsOf (at S) end) ≡ sets E₀ 0 (endsOf (at S) n)
+  pub same : sets E 0 (ends_of (at S) end) ≡ sets E₀ 0 (ends_of (at S) n)
   pub long : length E ≡ length E₀
 
 module _ (S : List ℕ) (n : ℕ) where
@@ -85,20 +85,20 @@ module _ (S : List ℕ) (n : ℕ) where
     here k z l = h.falls k z (omega (arith, h.to))
 
     -- There is a line before the end, and a place for it.
-    pub writing-line : 1 ≤ line
-    writing-line = omega (arith, h.count, line-next (at S) end here up)
+    pub writing_line : 1 ≤ line
+    writing_line = omega (arith, h.count, line_next (at S) end here up)
 
-    pub writing-place : line - 1 < length E
-    writing-place = omega (arith, h.count, line-le (at S) end, h.to, h.room, writing-line)
+    pub writing_place : line - 1 < length E
+    writing_place = omega (arith, h.count, line_le (at S) end, h.to, h.room, writing_line)
 
-    pub writing-less : {v : ℕ} → v ≡ at S end → v < end
-    writing-less e = omega (arith, here end up (omega arith))
+    pub writing_less : {v : ℕ} → v ≡ at S end → v < end
+    writing_less e = omega (arith, here end up (omega arith))
 
     pub writing_step : {E' : List ℕ} {v : ℕ} → E' ≡ set E (line - 1) end → v ≡ at S end → Writing S n E₀ E' (line - 1) v
     writing_step {E'} {v} e ev =
-        let m : line - 1 ≡ line_of (at S) (at S end) = omega (arith, h.count, line-next (at S) end here up) in
-        let x = endsOf (at S) (at S end) in
-        let k : line - 1 ≡ length x = omega (arith, ends-length (at S) (at S end)) in
+        let m : line - 1 ≡ line_of (at S) (at S end) = omega (arith, h.count, line_next (at S) end here up) in
+        let x = ends_of (at S) (at S end) in
+        let k : line - 1 ≡ length x = omega (arith, ends_length (at S) (at S end)) in
         rw (e, ev) (record {
           falls = h.falls;
           few = h.few;
@@ -107,21 +107,21 @@ module _ (S : List ℕ) (n : ℕ) where
           to = omega (arith, h.to, here end up (omega arith));
           count = m;
           same =
-              set-behind E 0 x (line - 1) end (omega arith)
-              ∙ sets-snoc E x (line - 1) end k
+              set_behind E 0 x (line - 1) end (omega arith)
+              ∙ sets_snoc E x (line - 1) end k
               ∙ ap (λ (l : List ℕ). sets E 0 l) (sym (ends_next (at S) end here up))
               ∙ h.same;
           long = length-set E (line - 1) end ∙ h.long;
         })
 
-  pub writing-end : {E₀ E : List ℕ} {lines line end : ℕ} → Writing S n E₀ E line end → end ≤ 0 → 0 < n → lines ≡ line_of (at S) n
+  pub writing_end : {E₀ E : List ℕ} {lines line end : ℕ} → Writing S n E₀ E line end → end ≤ 0 → 0 < n → lines ≡ line_of (at S) n
       → (lines ≡ length (lines_of (at S) n)) × (E ≡ sets E₀ 0 (lines_of (at S) n))
-  writing-end {E₀} {E} {lines} {line} {end} h z u e =
+  writing_end {E₀} {E} {lines} {line} {end} h z u e =
       let y : end ≡ 0 = omega arith in
-      let t : sets E 0 (endsOf (at S) 0) ≡ sets E₀ 0 (endsOf (at S) n) = rw y at h.same in
-      rw (lines-some (at S) n u) (omega (arith, ends-length (at S) n), rw ends-zero at t)
+      let t : sets E 0 (ends_of (at S) 0) ≡ sets E₀ 0 (ends_of (at S) n) = rw y at h.same in
+      rw (lines_some (at S) n u) (omega (arith, ends_length (at S) n), rw ends_zero at t)
 
-pub ruleset writing = (writing_start, writing-line, writing-place, writing-less, writing_step)
+pub ruleset writing = (writing_start, writing_line, writing_place, writing_less, writing_step)
 
 -- ---- the scratch set to zero, one place after the other
 
@@ -129,18 +129,18 @@ pub record Cleared (l₀ : List ℕ) (l : List ℕ) (k : ℕ) : Type 0 where
   pub same : l ≡ sets l₀ 0 (replicate k 0)
   pub long : length l ≡ length l₀
 
-pub cleared-start : (l : List ℕ) → Cleared l l 0
-cleared-start l = record { same = refl; long = refl }
+pub cleared_start : (l : List ℕ) → Cleared l l 0
+cleared_start l = record { same = refl; long = refl }
 
-pub cleared-step : {l₀ l : List ℕ} {k : ℕ} → Cleared l₀ l k → Cleared l₀ (set l k 0) (k + 1)
-cleared-step {l₀} {l} {k} c = record {
+pub cleared_step : {l₀ l : List ℕ} {k : ℕ} → Cleared l₀ l k → Cleared l₀ (set l k 0) (k + 1)
+cleared_step {l₀} {l} {k} c = record {
   same =
       rw c.same
-      (sets-snoc l₀ (replicate k 0) k 0 (sym (length-replicate k 0)) ∙ ap (λ (r : List ℕ). sets l₀ 0 r) (replicate-append-replicate k 1 0));
+      (sets_snoc l₀ (replicate k 0) k 0 (sym (length-replicate k 0)) ∙ ap (λ (r : List ℕ). sets l₀ 0 r) (replicate-append-replicate k 1 0));
   long = length-set l k 0 ∙ c.long;
 }
 
-pub cleared-end : {l₀ l : List ℕ} {k : ℕ} (n : ℕ) → Cleared l₀ l k → k ≡ n + 1 → l ≡ sets l₀ 0 (replicate (n + 1) 0)
-cleared-end n c e = rw (← e) c.same
+pub cleared_end : {l₀ l : List ℕ} {k : ℕ} (n : ℕ) → Cleared l₀ l k → k ≡ n + 1 → l ≡ sets l₀ 0 (replicate (n + 1) 0)
+cleared_end n c e = rw (← e) c.same
 
-pub ruleset clearing = (cleared-start, cleared-step, cleared-end)
+pub ruleset clearing = (cleared_start, cleared_step, cleared_end)

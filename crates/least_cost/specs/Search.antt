@@ -1,23 +1,23 @@
 -- What the parts of the search ask of each other.
 use Rattle.std.specs.Prelude.{◌≡◌, ℕ, ◌+◌, ◌-◌, ◌*◌, ◌^◌, ◌≤◌, ◌<◌, max, List, ltb, length, replicate}
 use Rattle.std.proofs.lemmas.List.Edits.{sets}
-use Rattle.units.specs.Limits.{penaltyMost, fragmentsMost, costMost}
+use Rattle.units.specs.Limits.{penalty_most, fragments_most, cost_most}
 use Rattle.logic.specs.Choice.{pick}
 use Rattle.fragments.specs.declared.Laid.{Laid}
 use Rattle.fragments.specs.declared.Laid.TheVariants.{Lines, Unequal, TooMany, TooWide, BigPenalty, NoRoom, TooDear}
 use Rattle.cheapest.specs.Lines.{Falls}
 use Rattle.cheapest.specs.Table.{at}
 use Rattle.least_cost.specs.declared.Penalties.{Penalties}
-use Rattle.least_cost.specs.Price.{target, endingPrice, priceAt}
-use Rattle.least_cost.specs.Layout.{lines_of, endsAfter}
+use Rattle.least_cost.specs.Price.{target, ending_price, price_at}
+use Rattle.least_cost.specs.Layout.{lines_of, ends_after}
 
 -- The penalties are within bounds.
 pub record Small (P : Penalties) : Type 0 where
-  pub line : P.line ≤ penaltyMost
-  pub over : P.overflow ≤ penaltyMost
-  pub part : P.fraction ≤ penaltyMost
-  pub last : P.short ≤ penaltyMost
-  pub dash : P.hyphen ≤ penaltyMost
+  pub line : P.line ≤ penalty_most
+  pub over : P.overflow ≤ penalty_most
+  pub part : P.fraction ≤ penalty_most
+  pub last : P.short ≤ penalty_most
+  pub dash : P.hyphen ≤ penalty_most
 
 -- A line can be priced: where T is wanted, L wide, from i.
 pub record Sized (P : Penalties) (T L i : ℕ) : Type 0 where
@@ -44,17 +44,17 @@ pub record Weighable (P : Penalties) (widest L penalty cost best : ℕ) : Type 0
 -- It need not: the overflow beyond the wider of the widest line and the penalty width is dearer than all that a lower start could save.
 pub record Hopeless (P : Penalties) (widest L penalty cost best : ℕ) : Type 0 where
   pub over : max widest penalty < L
-  pub dear : best + widest * widest + endingPrice P penalty < cost + P.overflow * (L - max widest penalty)
+  pub dear : best + widest * widest + ending_price P penalty < cost + P.overflow * (L - max widest penalty)
 
 -- The three lists have as many numbers as each other, and not too many.
 pub record Even (w s p : List ℕ) : Type 0 where
   pub whites : length s ≡ length w
   pub penalties : length p ≡ length w
-  pub few : length w ≤ fragmentsMost
+  pub few : length w ≤ fragments_most
 
 -- What j costs if its last line starts at i, by the costs and the targets of the positions before it.
-unfoldable pub startPrice : List ℕ → List ℕ → List ℕ → Penalties → List ℕ → List ℕ → ℕ → ℕ → ℕ
-startPrice w s p P T C j i = at C i + priceAt w s p P (at T i) i j
+unfoldable pub start_price : List ℕ → List ℕ → List ℕ → Penalties → List ℕ → List ℕ → ℕ → ℕ → ℕ
+start_price w s p P T C j i = at C i + price_at w s p P (at T i) i j
 
 -- Position j can be searched: the costs of the positions before it are known and least, and their targets, none above `widest`.
 pub record Ready (w s p : List ℕ) (P : Penalties) (T : List ℕ) (widest : ℕ) (C : List ℕ) (j : ℕ) : Type 0 where
@@ -65,7 +65,7 @@ pub record Ready (w s p : List ℕ) (P : Penalties) (T : List ℕ) (widest : ℕ
   pub room : j ≤ length C
   pub cheap : (k : ℕ) → k < j → at C k ≤ 2 ^ 50
   pub narrow : (k : ℕ) → k < j → at T k ≤ widest
-  pub least : (i k : ℕ) → k < i → i < j → at C i ≤ startPrice w s p P T C i k
+  pub least : (i k : ℕ) → k < i → i < j → at C i ≤ start_price w s p P T C i k
   pub most : widest ≤ 65535
 
 -- No line wants more.
@@ -95,23 +95,23 @@ pub record Fillable (w s p ws : List ℕ) (P : Penalties) (T N C S : List ℕ) :
 pub record Writable (S : List ℕ) (n : ℕ) (E : List ℕ) : Type 0 where
   pub starts : n < length S
   pub falls : Falls (at S) n
-  pub few : n ≤ fragmentsMost
+  pub few : n ≤ fragments_most
   pub room : n ≤ length E
   pub place : 0 < length E
 
 -- What is left of a scratch list after the last step, by its answer: zero up to n where the cost is too high.
-abbrev pub clearedBy : Laid → ℕ → List ℕ → List ℕ
-clearedBy (Lines k) n l = l
-clearedBy Unequal n l = l
-clearedBy TooMany n l = l
-clearedBy (TooWide i) n l = l
-clearedBy (BigPenalty i) n l = l
-clearedBy (NoRoom k) n l = l
-clearedBy TooDear n l = sets l 0 (replicate (n + 1) 0)
+abbrev pub cleared_by : Laid → ℕ → List ℕ → List ℕ
+cleared_by (Lines k) n l = l
+cleared_by Unequal n l = l
+cleared_by TooMany n l = l
+cleared_by (TooWide i) n l = l
+cleared_by (BigPenalty i) n l = l
+cleared_by (NoRoom k) n l = l
+cleared_by TooDear n l = sets l 0 (replicate (n + 1) 0)
 
 -- The last step: its answer r, and the lists of ends, costs and starts before and after it.
 pub record Finished (n : ℕ) (E C S : List ℕ) (r : Laid) (E' C' S' : List ℕ) : Type 0 where
-  pub answer : r ≡ pick (ltb costMost (at C n)) TooDear (Lines (length (lines_of (at S) n)))
-  pub ends : E' ≡ endsAfter r (lines_of (at S) n) E
-  pub costs : C' ≡ clearedBy r n C
-  pub starts : S' ≡ clearedBy r n S
+  pub answer : r ≡ pick (ltb cost_most (at C n)) TooDear (Lines (length (lines_of (at S) n)))
+  pub ends : E' ≡ ends_after r (lines_of (at S) n) E
+  pub costs : C' ≡ cleared_by r n C
+  pub starts : S' ≡ cleared_by r n S

@@ -6,9 +6,9 @@ ghost use Rattle.std.proofs.lemmas.List.Edits.{sets};
 ghost use Rattle.cheapest.specs.Least.{Cheapest};
 ghost use Rattle.cheapest.specs.Lines.{Falls, line_of};
 ghost use Rattle.cheapest.specs.Table.{at};
-ghost use Rattle.least_cost.specs.Price.{target, widthPrice, endingPrice, linePrice};
-ghost use Rattle.least_cost.specs.Layout.{firstBig, admissionOf, lines_of, costsOf, startsOf, Laying};
-ghost use Rattle.least_cost.specs.Search.{Sized, Priceable, Weighable, Hopeless, Ready, Widest, Searchable, Fillable, Writable, Finished, startPrice};
+ghost use Rattle.least_cost.specs.Price.{target, width_price, ending_price, line_price};
+ghost use Rattle.least_cost.specs.Layout.{first_big, admission_of, lines_of, costs_of, starts_of, Laying};
+ghost use Rattle.least_cost.specs.Search.{Sized, Priceable, Weighable, Hopeless, Ready, Widest, Searchable, Fillable, Writable, Finished, start_price};
 
 use fragments::{Laid, Tested};
 use units::{COST_MOST, FragmentIndex, PENALTY_MOST, WIDTH_MOST};
@@ -62,7 +62,7 @@ fn width_with(words: &[u16], after: &[u16], i: usize) -> u64
 // What the line of the fragments i up to j, of n, pays for being `len` wide where `target` is wanted.
 fn width_price(p: Penalties, target: u64, len: u64, i: usize, j: usize, n: usize) -> u64
     requires { Sized p target len i }
-    ensures { (result ≡ widthPrice p target len i j n) × (result ≤ 1000000 * 2 ^ 30) }
+    ensures { (result ≡ width_price p target len i j n) × (result ≤ 1000000 * 2 ^ 30) }
 {
     if target < len {
         return wide(p.overflow) * (len - target);
@@ -82,7 +82,7 @@ fn width_price(p: Penalties, target: u64, len: u64, i: usize, j: usize, n: usize
 
 // What a line pays for ending at a fragment of this penalty width.
 fn ending_price(p: Penalties, penalty: usize) -> u64
-    ensures { result ≡ endingPrice p penalty }
+    ensures { result ≡ ending_price p penalty }
 {
     if 0 < penalty { wide(p.hyphen) } else { 0 }
 }
@@ -98,7 +98,7 @@ fn line_price(
     n: usize,
 ) -> u64
     requires { Sized p target len i }
-    ensures { (result ≡ linePrice p target len penalty i j n) × (result ≤ 2 ^ 50) }
+    ensures { (result ≡ line_price p target len penalty i j n) × (result ≤ 2 ^ 50) }
 {
     wide(p.line) + width_price(p, target, len, i, j, n) + ending_price(p, penalty)
 }
@@ -160,7 +160,7 @@ fn start_price(
     n: usize,
 ) -> u64
     requires { Priceable p targets.now costs.now len i }
-    ensures { (result ≡ at costs.now i + linePrice p (at targets.now i) len penalty i j n) × (result ≤ 2 ^ 51) }
+    ensures { (result ≡ at costs.now i + line_price p (at targets.now i) len penalty i j n) × (result ≤ 2 ^ 51) }
 {
     costs[i] + line_price(p, targets[i] as u64, len, penalty, i, j, n)
 }
@@ -178,7 +178,7 @@ fn best_start(
     j: usize,
 ) -> Choice
     requires { Ready words.now whites.now penalties.now p targets.now widest costs.now j }
-    ensures { Cheapest (startPrice words.now whites.now penalties.now p targets.now costs.now j) j result.start.0 result.cost }
+    ensures { Cheapest (start_price words.now whites.now penalties.now p targets.now costs.now j) j result.start.0 result.cost }
 {
     let n = words.len();
     let last = j - 1;
@@ -239,8 +239,8 @@ fn fill_table(
     starts: &mut [u16],
 )
     requires { Fillable words.now whites.now penalties.now widths.now p targets.old chosen.old costs.old starts.old }
-    ensures { (costs.new ≡ sets costs.old 0 (costsOf words.now whites.now penalties.now widths.now p))
-        × (starts.new ≡ sets starts.old 0 (startsOf words.now whites.now penalties.now widths.now p)) }
+    ensures { (costs.new ≡ sets costs.old 0 (costs_of words.now whites.now penalties.now widths.now p))
+        × (starts.new ≡ sets starts.old 0 (starts_of words.now whites.now penalties.now widths.now p)) }
 {
     let n = words.len();
     let widest = widest_of(widths);
@@ -272,8 +272,8 @@ fn fill(
     starts: &mut [u16],
 )
     requires { Searchable words.now whites.now penalties.now p costs.old starts.old }
-    ensures { (costs.new ≡ sets costs.old 0 (costsOf words.now whites.now penalties.now widths.now p))
-        × (starts.new ≡ sets starts.old 0 (startsOf words.now whites.now penalties.now widths.now p)) }
+    ensures { (costs.new ≡ sets costs.old 0 (costs_of words.now whites.now penalties.now widths.now p))
+        × (starts.new ≡ sets starts.old 0 (starts_of words.now whites.now penalties.now widths.now p)) }
 {
     let first = target_of(widths, 0);
     let mut targets = [first; POSITIONS];
@@ -341,7 +341,7 @@ fn clear(costs: &mut [u64], starts: &mut [u16], n: usize)
 
 // The index of the first penalty above 1,000,000, or 5.
 pub fn first_big(p: Penalties) -> usize
-    ensures { result ≡ firstBig p }
+    ensures { result ≡ first_big p }
 {
     let five = [p.line, p.overflow, p.fraction, p.short, p.hyphen];
     let mut i = 0;
@@ -365,7 +365,7 @@ pub fn admit(
     starts: usize,
 ) -> Admission
     requires { n < 2 ^ 63 }
-    ensures { result ≡ admissionOf tested big n ends costs starts }
+    ensures { result ≡ admission_of tested big n ends costs starts }
 {
     match tested {
         Tested::Unequal => Admission::Shut(Laid::Unequal),

@@ -4,14 +4,14 @@ use mathlib.Core.Bool.{Bool, true, false}
 use mathlib.Core.List.{List, [], ◌∷◌, map}
 use Prim.Native.Nat.{ℕ, suc, ◌≤◌, max}
 use native.Mathlib.Omega.{arith}
-use lib.ListN.{length, length-map}
+use lib.ListN.{length, length_map}
 use Rattle.fragments.specs.Fragments.{Fragment}
-use Rattle.first_fit.specs.Groupings.{Grouping, tooWide, columnsAfter, fit, started, lineCount}
-use Rattle.first_fit.proofs.Laying.{flags-length}
-use Rattle.first_fit.proofs.Groupings.{count-least, count-wider}
+use Rattle.first_fit.specs.Groupings.{Grouping, too_wide, columns_after, fit, started, line_count}
+use Rattle.first_fit.proofs.Laying.{flags_length}
+use Rattle.first_fit.proofs.Groupings.{count_least, count_wider}
 use Rattle.words.specs.declared.Word.{Word}
 use Rattle.words.specs.Words.{words}
-use Rattle.lines.specs.Breaks.{fragmentOf, columnsOf, places, breaksOf, breaks}
+use Rattle.lines.specs.Breaks.{fragment_of, columns_of, places, breaks_of, breaks}
 
 places_count : (ws : List Word) (b : List Bool) → length b ≡ length ws → length (places ws b) ≡ started b
 unfolding places started
@@ -21,19 +21,19 @@ places_count (w ∷ ws) [] e = refl
 places_count (w ∷ ws) (true ∷ b) e = ap suc (places_count ws b (omega arith))
 places_count (w ∷ ws) (false ∷ b) e = places_count ws b (omega arith)
 
-breaks-of-count : (width : ℕ) (ws : List Word) → suc (length (breaksOf width ws)) ≡ lineCount width (map fragmentOf ws)
-unfolding breaksOf lineCount
-breaks-of-count width [] = refl
-breaks-of-count width (w ∷ ws) =
-    ap suc (places_count ws (fit width (columnsOf w) (map fragmentOf ws)) (flags-length (tooWide width) (columnsAfter width) (columnsOf w) (map fragmentOf ws) ∙ length-map ws fragmentOf))
+breaks_of_count : (width : ℕ) (ws : List Word) → suc (length (breaks_of width ws)) ≡ line_count width (map fragment_of ws)
+unfolding breaks_of line_count
+breaks_of_count width [] = refl
+breaks_of_count width (w ∷ ws) =
+    ap suc (places_count ws (fit width (columns_of w) (map fragment_of ws)) (flags_length (too_wide width) (columns_after width) (columns_of w) (map fragment_of ws) ∙ length_map ws fragment_of))
 
 -- One line more than breaks.
-pub breaks-lines : (width : ℕ) (s : List ℕ) → suc (length (breaks width s)) ≡ lineCount width (map fragmentOf (words s))
+pub breaks_lines : (width : ℕ) (s : List ℕ) → suc (length (breaks width s)) ≡ line_count width (map fragment_of (words s))
 unfolding breaks
-breaks-lines width s = breaks-of-count width (words s)
+breaks_lines width s = breaks_of_count width (words s)
 
-pub breaks-least : (width : ℕ) (s : List ℕ) {others : List (List Fragment)} → Grouping width (map fragmentOf (words s)) others → suc (length (breaks width s)) ≤ max 1 (length others)
-breaks-least width s g = omega (arith, breaks-lines width s, count-least g)
+pub breaks_least : (width : ℕ) (s : List ℕ) {others : List (List Fragment)} → Grouping width (map fragment_of (words s)) others → suc (length (breaks width s)) ≤ max 1 (length others)
+breaks_least width s g = omega (arith, breaks_lines width s, count_least g)
 
-pub breaks-wider : (v w : ℕ) (s : List ℕ) → v ≤ w → length (breaks w s) ≤ length (breaks v s)
-breaks-wider v w s h = omega (arith, breaks-lines v s, breaks-lines w s, count-wider v w (map fragmentOf (words s)) h)
+pub breaks_wider : (v w : ℕ) (s : List ℕ) → v ≤ w → length (breaks w s) ≤ length (breaks v s)
+breaks_wider v w s h = omega (arith, breaks_lines v s, breaks_lines w s, count_wider v w (map fragment_of (words s)) h)

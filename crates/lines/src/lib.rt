@@ -2,10 +2,10 @@
 // the fill and the check both make. Nothing here changes a text; where first fit breaks a line is said in
 // `specs/`.
 ghost use Rattle.std.specs.Prelude.{◌≡◌, ◌≤◌, ◌<◌, length, drop};
-ghost use Rattle.units.specs.Limits.{textMost};
+ghost use Rattle.units.specs.Limits.{text_most};
 ghost use Rattle.chars.specs.Utf8.{Whole};
-ghost use Rattle.lines.specs.Lines.{newline, inLine, lineEnd, bodyEnd, in_body};
-ghost use Rattle.lines.specs.Walk.{metAt, startsAt};
+ghost use Rattle.lines.specs.Lines.{newline, in_line, line_end, body_end, in_body};
+ghost use Rattle.lines.specs.Walk.{met_at, starts_at};
 
 use units::{Columns, Offset};
 use words::Step;
@@ -29,14 +29,14 @@ pub fn is_newline(b: u8) -> bool
 }
 
 fn in_line(b: u8) -> bool
-    ensures { result ≡ inLine b }
+    ensures { result ≡ in_line b }
 {
     !(b == NEWLINE)
 }
 
 // The end of the input line that starts at `from`: its newline, or the end of the text.
 pub fn line_end(text: &[u8], from: usize) -> usize
-    ensures { result ≡ lineEnd text.now from }
+    ensures { result ≡ line_end text.now from }
 {
     let mut at = from;
     while at < text.len() {
@@ -50,8 +50,8 @@ pub fn line_end(text: &[u8], from: usize) -> usize
 
 // Where the body of the input line that starts at `from` and ends at `end` ends.
 pub fn body_end(text: &[u8], from: usize, end: usize) -> usize
-    requires { end ≡ lineEnd text.now from }
-    ensures { result ≡ bodyEnd text.now from }
+    requires { end ≡ line_end text.now from }
+    ensures { result ≡ body_end text.now from }
 {
     end
 }
@@ -68,8 +68,8 @@ pub fn in_body(text: &[u8], at: usize) -> bool
 
 // The word that starts at a place of a line that is UTF-8 from there on.
 pub fn meet(line: &[u8], at: Offset) -> Met
-    requires { (at.0 < length line.now) × (length line.now ≤ textMost) × Whole (drop at.0 line.now) }
-    ensures { result ≡ metAt line.now at.0 }
+    requires { (at.0 < length line.now) × (length line.now ≤ text_most) × Whole (drop at.0 line.now) }
+    ensures { result ≡ met_at line.now at.0 }
 {
     let Step::Found(word, next) = words::next_word(line, at) else {
         return Met {
@@ -90,7 +90,7 @@ pub fn meet(line: &[u8], at: Offset) -> Met
 // Whether first fit starts a line at a word that starts at `at`, the line having so many columns already.
 pub fn starts_line(width: usize, columns: usize, at: Offset, word: Columns) -> bool
     requires { (columns ≤ 1000000) × (word.0 ≤ 1000000) }
-    ensures { result ≡ startsAt width columns at.0 word.0 }
+    ensures { result ≡ starts_at width columns at.0 word.0 }
 {
     (0 < at.0) & first_fit::starts_line(width, columns, word.0, 0)
 }

@@ -14,18 +14,18 @@ pub record Tested (p : ℕ → Bool) (from n : ℕ) (odd : Bool) (k : ℕ) : Typ
   pub said : odd ≡ any p from k
   pub inside : k ≤ n
 
-pub tested-start : (p : ℕ → Bool) (from n : ℕ) → Tested p from n false 0
+pub tested_start : (p : ℕ → Bool) (from n : ℕ) → Tested p from n false 0
 unfolding any
-tested-start p from n = record { said = refl; inside = omega arith }
+tested_start p from n = record { said = refl; inside = omega arith }
 
-pub tested-step : {p : ℕ → Bool} {from n k : ℕ} {odd r : Bool} → Tested p from n odd k → k < n → r ≡ p (from + k) → Tested p from n (odd || r) (k + 1)
+pub tested_step : {p : ℕ → Bool} {from n k : ℕ} {odd r : Bool} → Tested p from n odd k → k < n → r ≡ p (from + k) → Tested p from n (odd || r) (k + 1)
 unfolding any
-tested-step {p} {from} {n} {k} t l e = record { said = rw (add-one k, e, t.said); inside = omega arith }
+tested_step {p} {from} {n} {k} t l e = record { said = rw (add-one k, e, t.said); inside = omega arith }
 
-pub tested-end : {p : ℕ → Bool} {from n k : ℕ} {odd : Bool} → Tested p from n odd k → n ≤ k → odd ≡ any p from n
-tested-end {p} {from} {n} {k} t l = let e : k ≡ n = omega arith in rw (← e) t.said
+pub tested_end : {p : ℕ → Bool} {from n k : ℕ} {odd : Bool} → Tested p from n odd k → n ≤ k → odd ≡ any p from n
+tested_end {p} {from} {n} {k} t l = let e : k ≡ n = omega arith in rw (← e) t.said
 
-pub ruleset testing = (tested-start, tested-step, tested-end)
+pub ruleset testing = (tested_start, tested_step, tested_end)
 
 -- None of the k passes, by each of them.
 pub none_passes : (p : ℕ → Bool) (from k : ℕ) → any p from k ≡ false → (j : ℕ) → j < k → p (from + j) ≡ false
@@ -37,7 +37,7 @@ none_passes p from (suc k) e j l =
     (λ q. none_passes p from k h.0 j (ltb-true j k q))
     (λ q. let s : j ≡ k = omega (arith, ltb-false j k q) in rw s h.1)
 
-pub all-fail : (p : ℕ → Bool) (from k : ℕ) → ((j : ℕ) → j < k → p (from + j) ≡ false) → any p from k ≡ false
+pub all_fail : (p : ℕ → Bool) (from k : ℕ) → ((j : ℕ) → j < k → p (from + j) ≡ false) → any p from k ≡ false
 unfolding any
-all-fail p from zero f = refl
-all-fail p from (suc k) f = rw (all-fail p from k (λ j l. f j (omega arith)), f k (omega arith))
+all_fail p from zero f = refl
+all_fail p from (suc k) f = rw (all_fail p from k (λ j l. f j (omega arith)), f k (omega arith))

@@ -3,9 +3,9 @@
 use Rattle.std.specs.Prelude.{ℕ, zero, suc, ◌-◌, List, [], ◌∷◌, ltb}
 use Rattle.logic.specs.Choice.{pick}
 
-unfoldable pub itemsFor : {A : Type 0} → (ℕ → A) → (ℕ → ℕ) → ℕ → ℕ → ℕ → List A
-itemsFor at after end zero i = []
-itemsFor at after end (suc n) i = pick (ltb i end) (at i ∷ itemsFor at after end n (after i)) []
+unfoldable pub items_for : {A : Type 0} → (ℕ → A) → (ℕ → ℕ) → ℕ → ℕ → ℕ → List A
+items_for at after end zero i = []
+items_for at after end (suc n) i = pick (ltb i end) (at i ∷ items_for at after end n (after i)) []
 
 unfoldable pub items : {A : Type 0} → (ℕ → A) → (ℕ → ℕ) → ℕ → ℕ → List A
-items at after end i = itemsFor at after end (end - i) i
+items at after end i = items_for at after end (end - i) i

@@ -6,8 +6,8 @@
 // widths of lines stands here.
 ghost use Rattle.std.specs.Prelude.{◌≡◌, ◌+◌, ◌<◌, length, drop};
 ghost use Rattle.logic.specs.Count.{count};
-ghost use Rattle.measure.specs.Escapes.{columns, next, inText, taken};
-ghost use Rattle.measure.specs.Measure.{passedOf, measureOf, answer_of};
+ghost use Rattle.measure.specs.Escapes.{columns, next, in_text, taken};
+ghost use Rattle.measure.specs.Measure.{passed_of, measure_of, answer_of};
 ghost use Rattle.measure.specs.Walk.{Passes, Steps, plain};
 
 use chars::Read;
@@ -68,7 +68,7 @@ pub fn ch_width(c: u32) -> usize
 }
 
 fn is_text(m: Mode) -> bool
-    ensures { result ≡ inText m }
+    ensures { result ≡ in_text m }
 {
     match m {
         Mode::Text => true,
@@ -199,7 +199,7 @@ fn step(text: &[u8], at: Offset, stop: u32) -> Passed
 // The columns of the characters from a place up to the first that is `stop`, or else to the end of the
 // text, and the place of that; or the fault that is met before. A run of plain bytes is passed at once.
 pub fn columns_until(text: &[u8], from: Offset, stop: u32) -> Passed
-    ensures { result ≡ passedOf stop text.now from.0 }
+    ensures { result ≡ passed_of stop text.now from.0 }
 {
     let mut at = from;
     let mut cols = Columns(0);
@@ -231,7 +231,7 @@ pub fn columns_until(text: &[u8], from: Offset, stop: u32) -> Passed
 
 // The columns of a text, in one pass with the test that it is UTF-8.
 pub fn display_width(text: &[u8]) -> Measured
-    ensures { result ≡ measureOf text.now }
+    ensures { result ≡ measure_of text.now }
 {
     if TEXT_MOST < text.len() {
         return Measured::TooLong(Offset(text.len()));

@@ -10,25 +10,25 @@ use lib.Seq.{drop-cons}
 use borrow.Author.Tests.{eq-eqb, ne_eqb, not-true, not-false}
 use Rattle.words.specs.Words.{space}
 use Rattle.lines.specs.Lines.{newline}
-use Rattle.parting.specs.Parting.{goesOn, parts_at}
+use Rattle.parting.specs.Parting.{goes_on, parts_at}
 
 -- ---- `goes_on`
 
 module _ (b a : ℕ) where
-  pub goes_same : b ≡ a → true ≡ goesOn b a
-  unfolding goesOn
+  pub goes_same : b ≡ a → true ≡ goes_on b a
+  unfolding goes_on
   goes_same e = rw (eq-eqb b a e)
 
   module _ {r : Bool} (d : b ≡ a → ⊥) (f : r ≡ space b) where
-    pub goes_other : r ≡ false → false ≡ goesOn b a
-    unfolding goesOn
+    pub goes_other : r ≡ false → false ≡ goes_on b a
+    unfolding goes_on
     goes_other e = rw (ne_eqb b a d, ← f, e)
 
-    pub goes-space : {q : Bool} → r ≡ true → q ≡ newline a → q ≡ goesOn b a
-    unfolding goesOn
-    goes-space e g = rw (ne_eqb b a d, ← f, e, g)
+    pub goes_space : {q : Bool} → r ≡ true → q ≡ newline a → q ≡ goes_on b a
+    unfolding goes_on
+    goes_space e g = rw (ne_eqb b a d, ← f, e, g)
 
-pub ruleset going = (goes_same, goes_other, goes-space, not-true, not-false)
+pub ruleset going = (goes_same, goes_other, goes_space, not-true, not-false)
 
 -- ---- `parts_at`
 
@@ -36,32 +36,32 @@ pub ruleset going = (goes_same, goes_other, goes-space, not-true, not-false)
 pub record Together (b a : List ℕ) (at : ℕ) : Type 0 where
   pub same : at + parts_at (drop at b) (drop at a) ≡ parts_at b a
 
-pub together-start : (b a : List ℕ) → Together b a 0
-together-start b a = record { same = omega arith }
+pub together_start : (b a : List ℕ) → Together b a 0
+together_start b a = record { same = omega arith }
 
-pub together-step : {b a : List ℕ} {at : ℕ} {t : Bool} → Together b a at → at < length b → at < length a → t ≡ goesOn (get_or b at 0) (get_or a at 0) → t ≡ true → Together b a (at + 1)
+pub together_step : {b a : List ℕ} {at : ℕ} {t : Bool} → Together b a at → at < length b → at < length a → t ≡ goes_on (get_or b at 0) (get_or a at 0) → t ≡ true → Together b a (at + 1)
 unfolding parts_at
-together-step {b} {a} {at} k h i e q =
+together_step {b} {a} {at} k h i e q =
     let d : parts_at (drop at b) (drop at a) ≡ parts_at (drop (at + 1) b) (drop (at + 1) a) + 1 = rw (drop-cons b at 0 h, drop-cons a at 0 i, ← e, q, add-one at) (omega arith) in
     record { same = omega (arith, k.same) }
 
-pub together-stop : {b a : List ℕ} {at : ℕ} {t : Bool} → Together b a at → at < length b → at < length a → t ≡ goesOn (get_or b at 0) (get_or a at 0) → t ≡ false → at ≡ parts_at b a
+pub together_stop : {b a : List ℕ} {at : ℕ} {t : Bool} → Together b a at → at < length b → at < length a → t ≡ goes_on (get_or b at 0) (get_or a at 0) → t ≡ false → at ≡ parts_at b a
 unfolding parts_at
-together-stop {b} {a} {at} k h i e q =
+together_stop {b} {a} {at} k h i e q =
     let d : parts_at (drop at b) (drop at a) ≡ 0 = rw (drop-cons b at 0 h, drop-cons a at 0 i, ← e, q) in
     omega (arith, k.same)
 
 -- Where the first text has no more, or the second.
-pub together-end : {b a : List ℕ} {at : ℕ} → Together b a at → length b ≤ at → at ≡ parts_at b a
+pub together_end : {b a : List ℕ} {at : ℕ} → Together b a at → length b ≤ at → at ≡ parts_at b a
 unfolding parts_at
-together-end {b} {a} {at} k h =
+together_end {b} {a} {at} k h =
     let d : parts_at (drop at b) (drop at a) ≡ 0 = rw (drop_of_length-le b h) in
     omega (arith, k.same)
 
-pub together-short : {b a : List ℕ} {at : ℕ} → Together b a at → at < length b → length a ≤ at → at ≡ parts_at b a
+pub together_short : {b a : List ℕ} {at : ℕ} → Together b a at → at < length b → length a ≤ at → at ≡ parts_at b a
 unfolding parts_at
-together-short {b} {a} {at} k h i =
+together_short {b} {a} {at} k h i =
     let d : parts_at (drop at b) (drop at a) ≡ 0 = rw (drop-cons b at 0 h, drop_of_length-le a i) in
     omega (arith, k.same)
 
-pub ruleset parting = (together-start, together-step, together-stop, together-end, together-short, not-true, not-false)
+pub ruleset parting = (together_start, together_step, together_stop, together_end, together_short, not-true, not-false)

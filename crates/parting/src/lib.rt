@@ -2,11 +2,11 @@
 // both nor a space that is a newline now. It serves a person who looks for words that are missing; whether
 // a fill is right is for `judge` to say.
 ghost use Rattle.std.specs.Prelude.{◌≡◌};
-ghost use Rattle.parting.specs.Parting.{goesOn, parts_at};
+ghost use Rattle.parting.specs.Parting.{goes_on, parts_at};
 
 // Whether a byte may stand in the place of another: it is the same, or a newline in the place of a space.
 fn goes_on(before: u8, after: u8) -> bool
-    ensures { result ≡ goesOn before after }
+    ensures { result ≡ goes_on before after }
 {
     if before == after {
         return true;

@@ -2,13 +2,13 @@
 // high first, as in `word_bytes`.
 ghost use Rattle.std.specs.Prelude.{◌≡◌, ◌*◌, ◌/◌, ◌≤◌, min, map, length};
 ghost use Rattle.std.proofs.lemmas.List.Edits.{sets};
-ghost use Rattle.units.specs.Limits.{textMost};
+ghost use Rattle.units.specs.Limits.{text_most};
 ghost use Rattle.logic.specs.Flat.{flat};
 ghost use Rattle.wire.specs.Wire.{be32};
 ghost use Rattle.chars.specs.Utf8.{Whole};
-ghost use Rattle.words.specs.Lists.{start_of, end_of, whiteOf, widthOfWord, Room};
-ghost use Rattle.pieces.specs.Pieces.{breakApart, breakWords};
-ghost use Rattle.pieces.specs.Lists.{brokenOf, Lists, pieces_by};
+ghost use Rattle.words.specs.Lists.{start_of, end_of, white_of, width_of_word, Room};
+ghost use Rattle.pieces.specs.Pieces.{break_apart, break_words};
+ghost use Rattle.pieces.specs.Lists.{broken_of, Lists, pieces_by};
 ghost use Rattle.pieces.specs.Steps.{Way};
 
 use chars::Checked;
@@ -31,12 +31,12 @@ fn write_pieces(
     whites: &mut [u8],
     widths: &mut [u8],
 )
-    requires text_len_bound { (length text.now ≤ textMost) × Way stop last text.now × Whole text.now }
+    requires text_len_bound { (length text.now ≤ text_most) × Way stop last text.now × Whole text.now }
     requires room { Room (4 * length (pieces_by stop text.now width.0)) starts.old ends.old whites.old widths.old }
     ensures starts_after { starts.new ≡ sets starts.old 0 (flat be32 (map start_of (pieces_by stop text.now width.0))) }
     ensures ends_after { ends.new ≡ sets ends.old 0 (flat be32 (map end_of (pieces_by stop text.now width.0))) }
-    ensures whites_after { whites.new ≡ sets whites.old 0 (flat be32 (map whiteOf (pieces_by stop text.now width.0))) }
-    ensures widths_after { widths.new ≡ sets widths.old 0 (flat be32 (map widthOfWord (pieces_by stop text.now width.0))) }
+    ensures whites_after { whites.new ≡ sets whites.old 0 (flat be32 (map white_of (pieces_by stop text.now width.0))) }
+    ensures widths_after { widths.new ≡ sets widths.old 0 (flat be32 (map width_of_word (pieces_by stop text.now width.0))) }
 {
     let mut at = Offset(0);
     let mut place = 0;
@@ -62,11 +62,11 @@ fn list_pieces(
     widths: &mut [u8],
 ) -> Broken
     requires { Way stop last text.now }
-    ensures value { result ≡ brokenOf text.now width (min (min (length starts.old / 4) (length ends.old / 4)) (min (length whites.old / 4) (length widths.old / 4))) (pieces_by stop text.now width) }
+    ensures value { result ≡ broken_of text.now width (min (min (length starts.old / 4) (length ends.old / 4)) (min (length whites.old / 4) (length widths.old / 4))) (pieces_by stop text.now width) }
     ensures starts_after { starts.new ≡ Lists result (flat be32 (map start_of (pieces_by stop text.now width))) starts.old }
     ensures ends_after { ends.new ≡ Lists result (flat be32 (map end_of (pieces_by stop text.now width))) ends.old }
-    ensures whites_after { whites.new ≡ Lists result (flat be32 (map whiteOf (pieces_by stop text.now width))) whites.old }
-    ensures widths_after { widths.new ≡ Lists result (flat be32 (map widthOfWord (pieces_by stop text.now width))) widths.old }
+    ensures whites_after { whites.new ≡ Lists result (flat be32 (map white_of (pieces_by stop text.now width))) whites.old }
+    ensures widths_after { widths.new ≡ Lists result (flat be32 (map width_of_word (pieces_by stop text.now width))) widths.old }
 {
     if TEXT_MOST < text.len() {
         return Broken::TooLong(Offset(text.len()));
@@ -104,11 +104,11 @@ pub fn break_apart(
     whites: &mut [u8],
     widths: &mut [u8],
 ) -> Broken
-    ensures value { result ≡ brokenOf text.now width (min (min (length starts.old / 4) (length ends.old / 4)) (min (length whites.old / 4) (length widths.old / 4))) (breakApart text.now width) }
-    ensures starts_after { starts.new ≡ Lists result (flat be32 (map start_of (breakApart text.now width))) starts.old }
-    ensures ends_after { ends.new ≡ Lists result (flat be32 (map end_of (breakApart text.now width))) ends.old }
-    ensures whites_after { whites.new ≡ Lists result (flat be32 (map whiteOf (breakApart text.now width))) whites.old }
-    ensures widths_after { widths.new ≡ Lists result (flat be32 (map widthOfWord (breakApart text.now width))) widths.old }
+    ensures value { result ≡ broken_of text.now width (min (min (length starts.old / 4) (length ends.old / 4)) (min (length whites.old / 4) (length widths.old / 4))) (break_apart text.now width) }
+    ensures starts_after { starts.new ≡ Lists result (flat be32 (map start_of (break_apart text.now width))) starts.old }
+    ensures ends_after { ends.new ≡ Lists result (flat be32 (map end_of (break_apart text.now width))) ends.old }
+    ensures whites_after { whites.new ≡ Lists result (flat be32 (map white_of (break_apart text.now width))) whites.old }
+    ensures widths_after { widths.new ≡ Lists result (flat be32 (map width_of_word (break_apart text.now width))) widths.old }
 {
     let last = pieces::content_end(text);
     list_pieces(text, last, NO_STOP, width, starts, ends, whites, widths)
@@ -123,11 +123,11 @@ pub fn break_words(
     whites: &mut [u8],
     widths: &mut [u8],
 ) -> Broken
-    ensures value { result ≡ brokenOf text.now width (min (min (length starts.old / 4) (length ends.old / 4)) (min (length whites.old / 4) (length widths.old / 4))) (breakWords text.now width) }
-    ensures starts_after { starts.new ≡ Lists result (flat be32 (map start_of (breakWords text.now width))) starts.old }
-    ensures ends_after { ends.new ≡ Lists result (flat be32 (map end_of (breakWords text.now width))) ends.old }
-    ensures whites_after { whites.new ≡ Lists result (flat be32 (map whiteOf (breakWords text.now width))) whites.old }
-    ensures widths_after { widths.new ≡ Lists result (flat be32 (map widthOfWord (breakWords text.now width))) widths.old }
+    ensures value { result ≡ broken_of text.now width (min (min (length starts.old / 4) (length ends.old / 4)) (min (length whites.old / 4) (length widths.old / 4))) (break_words text.now width) }
+    ensures starts_after { starts.new ≡ Lists result (flat be32 (map start_of (break_words text.now width))) starts.old }
+    ensures ends_after { ends.new ≡ Lists result (flat be32 (map end_of (break_words text.now width))) ends.old }
+    ensures whites_after { whites.new ≡ Lists result (flat be32 (map white_of (break_words text.now width))) whites.old }
+    ensures widths_after { widths.new ≡ Lists result (flat be32 (map width_of_word (break_words text.now width))) widths.old }
 {
     let last = text.len();
     list_pieces(text, last, SPACE_CHAR, width, starts, ends, whites, widths)

@@ -12,14 +12,14 @@ use Rattle.units.specs.declared.Offset.{Offset}
 use Rattle.units.specs.declared.Columns.{Columns}
 use Rattle.chars.specs.declared.Read.{Read}
 use Rattle.chars.specs.declared.Read.TheVariants as read
-use Rattle.chars.specs.Utf8.{Chr, readAt, bytes}
-use Rattle.chars.proofs.Laws.{Stepped, step-fault, decode-end}
+use Rattle.chars.specs.Utf8.{Chr, read_at, bytes}
+use Rattle.chars.proofs.Laws.{Stepped, step_fault, decode_end}
 use Rattle.measure.specs.declared.Mode.{Mode}
 use Rattle.measure.specs.declared.Mode.TheVariants.{Text}
-use Rattle.measure.specs.Escapes.{next, taken, widthFrom}
+use Rattle.measure.specs.Escapes.{next, taken, width_from}
 use Rattle.measure.specs.Measure.{until}
 use Rattle.measure.specs.Walk.{ahead}
-use Rattle.measure.proofs.Walk.{here, ahead-char, taken-most}
+use Rattle.measure.proofs.Walk.{here, ahead_char, taken_most}
 use Rattle.pieces.specs.Pieces.{starts, fitting, piece}
 use Rattle.pieces.specs.Steps.{cut_at}
 
@@ -31,67 +31,67 @@ still stop w s at cols m = fitting w cols m (ahead stop s at)
 pub record Cutting (stop w : ℕ) (s : List ℕ) (from at cols : ℕ) (m : Mode) : Type 0 where
   pub inside : at ≤ max from (length s)
   pub place : from + bytes (piece w (ahead stop s from)) ≡ at + bytes (still stop w s at cols m)
-  pub width : widthFrom Text (piece w (ahead stop s from)) ≡ cols + widthFrom m (still stop w s at cols m)
+  pub width : width_from Text (piece w (ahead stop s from)) ≡ cols + width_from m (still stop w s at cols m)
   pub room : cols + 2 * from ≤ 2 * at
 
-pub cutting-start : (stop w : ℕ) (s : List ℕ) (from : ℕ) → Cutting stop w s from from 0 Text
-cutting-start stop w s from = record { inside = omega arith; place = refl; width = omega arith; room = omega arith }
+pub cutting_start : (stop w : ℕ) (s : List ℕ) (from : ℕ) → Cutting stop w s from from 0 Text
+cutting_start stop w s from = record { inside = omega arith; place = refl; width = omega arith; room = omega arith }
 
 -- It ends where it takes nothing more.
-cutting-ends : {stop w : ℕ} {s : List ℕ} {from : ℕ} {at : Offset} {cols : Columns} {m : Mode} → Cutting stop w s from at.0 cols.0 m → still stop w s at.0 cols.0 m ≡ []
+cutting_ends : {stop w : ℕ} {s : List ℕ} {from : ℕ} {at : Offset} {cols : Columns} {m : Mode} → Cutting stop w s from at.0 cols.0 m → still stop w s at.0 cols.0 m ≡ []
     → record { end = at; width = cols } ≡ cut_at stop w s from
-unfolding cut_at bytes widthFrom
-cutting-ends {stop} {w} {s} {from} {at} {cols} {m} k e =
+unfolding cut_at bytes width_from
+cutting_ends {stop} {w} {s} {from} {at} {cols} {m} k e =
     let b : from + bytes (piece w (ahead stop s from)) ≡ at.0 = omega (arith, k.place, ap bytes e) in
-    let c : widthFrom Text (piece w (ahead stop s from)) ≡ cols.0 = omega (arith, k.width, ap (widthFrom m) e) in
+    let c : width_from Text (piece w (ahead stop s from)) ≡ cols.0 = omega (arith, k.width, ap (width_from m) e) in
     rw (b, c)
 
 module _ {stop w : ℕ} {s : List ℕ} {from : ℕ} {at : Offset} {cols : Columns} {m : Mode} (k : Cutting stop w s from at.0 cols.0 m) where
-  pub cutting-step : {c t : ℕ} {n : Mode} {r : Read} {o : Offset} {b : Bool} → r ≡ read.Char c o → r ≡ readAt s at.0 → (c ≡ stop → ⊥) → t ≡ taken m c → b ≡ starts w cols.0 (cols.0 + t) → b ≡ false
+  pub cutting_step : {c t : ℕ} {n : Mode} {r : Read} {o : Offset} {b : Bool} → r ≡ read.Char c o → r ≡ read_at s at.0 → (c ≡ stop → ⊥) → t ≡ taken m c → b ≡ starts w cols.0 (cols.0 + t) → b ≡ false
       → n ≡ next m c → Cutting stop w s from o.0 (cols.0 + t) n
-  unfolding fitting bytes widthFrom
-  cutting-step {c} {t} {n} {r} {o} {b} p e q et eb f en =
+  unfolding fitting bytes width_from
+  cutting_step {c} {t} {n} {r} {o} {b} p e q et eb f en =
       let d : Stepped s at.0 c o = here p e in
       let h : starts w cols.0 (cols.0 + taken m c) ≡ false = rw (← et, ← eb) f in
-      let a : still stop w s at.0 cols.0 m ≡ record { code = c; size = o.0 - at.0 } ∷ still stop w s o.0 (cols.0 + taken m c) (next m c) = rw (ahead-char stop d q, h) in
+      let a : still stop w s at.0 cols.0 m ≡ record { code = c; size = o.0 - at.0 } ∷ still stop w s o.0 (cols.0 + taken m c) (next m c) = rw (ahead_char stop d q, h) in
       let l = d.later in
       let i = d.inside in
-      let u = taken-most m c in
+      let u = taken_most m c in
       rw (et, en) (record {
         inside = omega arith;
         place = omega (arith, k.place, ap bytes a);
-        width = omega (arith, k.width, ap (widthFrom m) a);
+        width = omega (arith, k.width, ap (width_from m) a);
         room = omega (arith, k.room);
       })
 
-  pub cutting-new : {c t : ℕ} {r : Read} {o : Offset} {b : Bool} → r ≡ read.Char c o → r ≡ readAt s at.0 → (c ≡ stop → ⊥) → t ≡ taken m c → b ≡ starts w cols.0 (cols.0 + t) → b ≡ true
+  pub cutting_new : {c t : ℕ} {r : Read} {o : Offset} {b : Bool} → r ≡ read.Char c o → r ≡ read_at s at.0 → (c ≡ stop → ⊥) → t ≡ taken m c → b ≡ starts w cols.0 (cols.0 + t) → b ≡ true
       → record { end = at; width = cols } ≡ cut_at stop w s from
   unfolding fitting
-  cutting-new {c} {t} {r} {o} {b} p e q et eb f =
+  cutting_new {c} {t} {r} {o} {b} p e q et eb f =
       let d : Stepped s at.0 c o = here p e in
       let h : starts w cols.0 (cols.0 + taken m c) ≡ true = rw (← et, ← eb) f in
-      cutting-ends k (rw (ahead-char stop d q, h))
+      cutting_ends k (rw (ahead_char stop d q, h))
 
-  pub cutting-stop : {c : ℕ} {r : Read} {o : Offset} → r ≡ read.Char c o → r ≡ readAt s at.0 → c ≡ stop → record { end = at; width = cols } ≡ cut_at stop w s from
+  pub cutting_stop : {c : ℕ} {r : Read} {o : Offset} → r ≡ read.Char c o → r ≡ read_at s at.0 → c ≡ stop → record { end = at; width = cols } ≡ cut_at stop w s from
   unfolding fitting until
-  cutting-stop {c} {r} {o} p e q = let d : Stepped s at.0 c o = here p e in cutting-ends k (rw (d.chars, eq-eqb c stop q))
+  cutting_stop {c} {r} {o} p e q = let d : Stepped s at.0 c o = here p e in cutting_ends k (rw (d.chars, eq-eqb c stop q))
 
-  pub cutting-fault : {r : Read} {o : Offset} → r ≡ read.Fault o → r ≡ readAt s at.0 → record { end = at; width = cols } ≡ cut_at stop w s from
+  pub cutting_fault : {r : Read} {o : Offset} → r ≡ read.Fault o → r ≡ read_at s at.0 → record { end = at; width = cols } ≡ cut_at stop w s from
   unfolding fitting until
-  cutting-fault {r} {o} p e =
-      let e' : read.Fault o ≡ readAt s at.0 = cc in
-      let d = (step-fault s at.0 e').1 in
-      cutting-ends k (rw d)
+  cutting_fault {r} {o} p e =
+      let e' : read.Fault o ≡ read_at s at.0 = cc in
+      let d = (step_fault s at.0 e').1 in
+      cutting_ends k (rw d)
 
-  pub cutting-end : length s ≤ at.0 → record { end = at; width = cols } ≡ cut_at stop w s from
+  pub cutting_end : length s ≤ at.0 → record { end = at; width = cols } ≡ cut_at stop w s from
   unfolding fitting until
-  cutting-end l = cutting-ends k (rw (decode-end s at.0 l))
+  cutting_end l = cutting_ends k (rw (decode_end s at.0 l))
 
   -- The sum of columns fits: a text has fewer than 2^63 bytes, and at most two columns a byte.
-  pub cutting-room : (c : ℕ) {t : ℕ} → length s * 1 < 2 ^ 63 → at.0 < length s → t ≡ taken m c → Fits w64 (cols.0 + t)
-  cutting-room c h l e = omega (arith, k.room, k.inside, taken-most m c)
+  pub cutting_room : (c : ℕ) {t : ℕ} → length s * 1 < 2 ^ 63 → at.0 < length s → t ≡ taken m c → Fits w64 (cols.0 + t)
+  cutting_room c h l e = omega (arith, k.room, k.inside, taken_most m c)
 
-pub cutting-less : (s : List ℕ) {at c : ℕ} {r : Read} {o : Offset} → at < length s → r ≡ read.Char c o → r ≡ readAt s at → length s - o.0 < length s - at
-cutting-less s {at} {c} {r} {o} l p e = let d : Stepped s at c o = here p e in omega (arith, d.later, d.inside)
+pub cutting_less : (s : List ℕ) {at c : ℕ} {r : Read} {o : Offset} → at < length s → r ≡ read.Char c o → r ≡ read_at s at → length s - o.0 < length s - at
+cutting_less s {at} {c} {r} {o} l p e = let d : Stepped s at c o = here p e in omega (arith, d.later, d.inside)
 
-pub ruleset cutting = (cutting-start, cutting-step, cutting-new, cutting-stop, cutting-fault, cutting-end, cutting-room, cutting-less)
+pub ruleset cutting = (cutting_start, cutting_step, cutting_new, cutting_stop, cutting_fault, cutting_end, cutting_room, cutting_less)

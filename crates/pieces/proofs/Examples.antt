@@ -3,12 +3,12 @@ use mathlib.Core.Path.{◌≡◌, refl}
 use mathlib.Core.List.{List, [], ◌∷◌, map}
 use Prim.Native.Nat.{ℕ}
 use Rattle.logic.specs.Count.{count}
-use Rattle.logic.specs.Items.{itemsFor, items}
-use Rattle.chars.specs.Utf8.{utf8-1, utf8-2, utf8-3, utf8-4, point-2, point-3, point-4, head4, head_of, decode_from, bytes}
-use Rattle.measure.specs.Escapes.{columns, next, inText, taken, widthFrom, width_of}
+use Rattle.logic.specs.Items.{items_for, items}
+use Rattle.chars.specs.Utf8.{utf8_1, utf8_2, utf8_3, utf8_4, point_2, point_3, point_4, head4, head_of, decode_from, bytes}
+use Rattle.measure.specs.Escapes.{columns, next, in_text, taken, width_from, width_of}
 use Rattle.words.specs.declared.Word.{Word}
-use Rattle.words.specs.Words.{contentEnd, white, afterWord, word_at, words}
-use Rattle.pieces.specs.Pieces.{starts, fitting, pieceEnd, piece_at, pieces, trimmed, wordFrom, breakApart, breakEach, breakWords}
+use Rattle.words.specs.Words.{content_end, white, after_word, word_at, words}
+use Rattle.pieces.specs.Pieces.{starts, fitting, piece_end, piece_at, pieces, trimmed, word_from, break_apart, break_each, break_words}
 
 -- Start, content end, whitespace length and width.
 abbrev row : Word → List ℕ
@@ -19,8 +19,8 @@ abbrev hello : List ℕ
 hello = 0x48 ∷ 0x65 ∷ 0x6C ∷ 0x6C ∷ 0x6F ∷ 0x21 ∷ 0x20 ∷ 0x20 ∷ []
 
 -- U+4F60 U+597D
-abbrev niHao : List ℕ
-niHao = 0xE4 ∷ 0xBD ∷ 0xA0 ∷ 0xE5 ∷ 0xA5 ∷ 0xBD ∷ []
+abbrev ni_hao : List ℕ
+ni_hao = 0xE4 ∷ 0xBD ∷ 0xA0 ∷ 0xE5 ∷ 0xA5 ∷ 0xBD ∷ []
 
 -- `ab` ESC `[31m` `cd`
 abbrev red : List ℕ
@@ -31,31 +31,31 @@ abbrev foobar : List ℕ
 foobar = 0x20 ∷ 0x20 ∷ 0x66 ∷ 0x6F ∷ 0x6F ∷ 0x20 ∷ 0x20 ∷ 0x66 ∷ 0x6F ∷ 0x6F ∷ 0x62 ∷ 0x61 ∷ 0x72 ∷ 0x20 ∷ []
 
 -- "`Hello!  ` broken at 3: `Hel`, `lo!` with two spaces"
-pub hello-at-3 : map row (breakApart hello 3) ≡ (0 ∷ 3 ∷ 0 ∷ 3 ∷ []) ∷ (3 ∷ 6 ∷ 2 ∷ 3 ∷ []) ∷ []
-unfolding count itemsFor items utf8-1 utf8-2 utf8-3 utf8-4 point-2 point-3 point-4 head4 head_of decode_from bytes columns next inText taken widthFrom width_of starts fitting pieceEnd piece_at pieces trimmed wordFrom breakApart
-hello-at-3 = refl
+pub hello_at_3 : map row (break_apart hello 3) ≡ (0 ∷ 3 ∷ 0 ∷ 3 ∷ []) ∷ (3 ∷ 6 ∷ 2 ∷ 3 ∷ []) ∷ []
+unfolding count items_for items utf8_1 utf8_2 utf8_3 utf8_4 point_2 point_3 point_4 head4 head_of decode_from bytes columns next in_text taken width_from width_of starts fitting piece_end piece_at pieces trimmed word_from break_apart
+hello_at_3 = refl
 
 -- "U+4F60 U+597D at 1: two pieces of width 2."
-pub ni-hao-at-1 : map row (breakApart niHao 1) ≡ (0 ∷ 3 ∷ 0 ∷ 2 ∷ []) ∷ (3 ∷ 6 ∷ 0 ∷ 2 ∷ []) ∷ []
-unfolding count itemsFor items utf8-1 utf8-2 utf8-3 utf8-4 point-2 point-3 point-4 head4 head_of decode_from bytes columns next inText taken widthFrom width_of starts fitting pieceEnd piece_at pieces trimmed wordFrom breakApart
-ni-hao-at-1 = refl
+pub ni_hao_at_1 : map row (break_apart ni_hao 1) ≡ (0 ∷ 3 ∷ 0 ∷ 2 ∷ []) ∷ (3 ∷ 6 ∷ 0 ∷ 2 ∷ []) ∷ []
+unfolding count items_for items utf8_1 utf8_2 utf8_3 utf8_4 point_2 point_3 point_4 head4 head_of decode_from bytes columns next in_text taken width_from width_of starts fitting piece_end piece_at pieces trimmed word_from break_apart
+ni_hao_at_1 = refl
 
 -- An escape stays whole, with the piece before it.
-pub red-at-2 : map row (breakApart red 2) ≡ (0 ∷ 7 ∷ 0 ∷ 2 ∷ []) ∷ (7 ∷ 9 ∷ 0 ∷ 2 ∷ []) ∷ []
-unfolding count itemsFor items utf8-1 utf8-2 utf8-3 utf8-4 point-2 point-3 point-4 head4 head_of decode_from bytes columns next inText taken widthFrom width_of starts fitting pieceEnd piece_at pieces trimmed wordFrom breakApart
-red-at-2 = refl
+pub red_at_2 : map row (break_apart red 2) ≡ (0 ∷ 7 ∷ 0 ∷ 2 ∷ []) ∷ (7 ∷ 9 ∷ 0 ∷ 2 ∷ []) ∷ []
+unfolding count items_for items utf8_1 utf8_2 utf8_3 utf8_4 point_2 point_3 point_4 head4 head_of decode_from bytes columns next in_text taken width_from width_of starts fitting piece_end piece_at pieces trimmed word_from break_apart
+red_at_2 = refl
 
 -- The whole text as one word: spaces inside it are content.
-pub foobar-as-one : map row (breakApart foobar 8) ≡ (0 ∷ 8 ∷ 0 ∷ 8 ∷ []) ∷ (8 ∷ 13 ∷ 1 ∷ 5 ∷ []) ∷ []
-unfolding count itemsFor items utf8-1 utf8-2 utf8-3 utf8-4 point-2 point-3 point-4 head4 head_of decode_from bytes columns next inText taken widthFrom width_of starts fitting pieceEnd piece_at pieces trimmed wordFrom breakApart
-foobar-as-one = refl
+pub foobar_as_one : map row (break_apart foobar 8) ≡ (0 ∷ 8 ∷ 0 ∷ 8 ∷ []) ∷ (8 ∷ 13 ∷ 1 ∷ 5 ∷ []) ∷ []
+unfolding count items_for items utf8_1 utf8_2 utf8_3 utf8_4 point_2 point_3 point_4 head4 head_of decode_from bytes columns next in_text taken width_from width_of starts fitting piece_end piece_at pieces trimmed word_from break_apart
+foobar_as_one = refl
 
 -- Spaces alone have no content, and so no piece.
-pub spaces-as-one : breakApart (0x20 ∷ 0x20 ∷ []) 3 ≡ []
-unfolding count itemsFor items pieces trimmed wordFrom breakApart
-spaces-as-one = refl
+pub spaces_as_one : break_apart (0x20 ∷ 0x20 ∷ []) 3 ≡ []
+unfolding count items_for items pieces trimmed word_from break_apart
+spaces_as_one = refl
 
 -- Its words: the first, of empty content, is kept; `foo` is no wider than 3; `foobar` is broken.
-pub foobar-at-3 : map row (breakWords foobar 3) ≡ (0 ∷ 0 ∷ 2 ∷ 0 ∷ []) ∷ (2 ∷ 5 ∷ 2 ∷ 3 ∷ []) ∷ (7 ∷ 10 ∷ 0 ∷ 3 ∷ []) ∷ (10 ∷ 13 ∷ 1 ∷ 3 ∷ []) ∷ []
-unfolding count itemsFor items utf8-1 utf8-2 utf8-3 utf8-4 point-2 point-3 point-4 head4 head_of decode_from bytes columns next inText taken widthFrom width_of contentEnd white afterWord word_at words starts fitting pieceEnd piece_at pieces breakEach breakWords
-foobar-at-3 = refl
+pub foobar_at_3 : map row (break_words foobar 3) ≡ (0 ∷ 0 ∷ 2 ∷ 0 ∷ []) ∷ (2 ∷ 5 ∷ 2 ∷ 3 ∷ []) ∷ (7 ∷ 10 ∷ 0 ∷ 3 ∷ []) ∷ (10 ∷ 13 ∷ 1 ∷ 3 ∷ []) ∷ []
+unfolding count items_for items utf8_1 utf8_2 utf8_3 utf8_4 point_2 point_3 point_4 head4 head_of decode_from bytes columns next in_text taken width_from width_of content_end white after_word word_at words starts fitting piece_end piece_at pieces break_each break_words
+foobar_at_3 = refl

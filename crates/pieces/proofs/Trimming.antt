@@ -1,6 +1,6 @@
 -- A text without the spaces at its end, the loop of `content_end` that goes back over them, and what `word_from` answers.
 use mathlib.Core.Path.{◌≡◌, refl, sym, ap, ◌∙◌}
-use mathlib.Core.Bool.{Bool, true, false, ◌&&◌, and-false}
+use mathlib.Core.Bool.{Bool, true, false, ◌&&◌, and_false}
 use mathlib.Core.List.{List, [], ◌∷◌, ◌++◌, append_assoc}
 use Prim.Native.Nat.{ℕ, suc, ◌+◌, ◌-◌, ◌≤◌, ◌<◌}
 use native.Mathlib.Omega.{arith}
@@ -10,37 +10,37 @@ use lib.Seq.{take_all, take-suc, take-length, length-take-le, drop-cons}
 use borrow.Author.Tests.{ne_eqb, eqb-true, lt-ltb, le-ltb, ltb-true, ltb-false, leb-true, leb-false, not-true, not-false}
 use Rattle.units.specs.declared.Offset.{Offset}
 use Rattle.units.specs.declared.Columns.{Columns}
-use Rattle.units.specs.Limits.{textMost}
+use Rattle.units.specs.Limits.{text_most}
 use Rattle.logic.specs.Choice.{pick}
 use Rattle.logic.specs.Count.{count}
-use Rattle.logic.proofs.Choice.{both, pick-le}
-use Rattle.chars.specs.Utf8.{Head, Found, Nothing, head_of, decode_from, bytes, firstFault, Whole}
-use Rattle.chars.proofs.Laws.{head-low, head-char, head-cut, ends-before, cut-before, fault-append, fault-only, fault-fits, split}
+use Rattle.logic.proofs.Choice.{both, pick_le}
+use Rattle.chars.specs.Utf8.{Head, Found, Nothing, head_of, decode_from, bytes, first_fault, Whole}
+use Rattle.chars.proofs.Laws.{head_low, head_char, head_cut, ends_before, cut_before, fault_append, fault_only, fault_fits, split}
 use Rattle.measure.specs.declared.Passed.{Passed}
 use Rattle.measure.specs.declared.Passed.TheVariants as passed
 use Rattle.measure.specs.Escapes.{width_of}
-use Rattle.measure.specs.Measure.{passedOf}
+use Rattle.measure.specs.Measure.{passed_of}
 use Rattle.measure.proofs.Walk.{walked}
 use Rattle.words.specs.Words.{space}
 use Rattle.pieces.specs.declared.OneWord.TheVariants.{Made, TooLong, NotUtf8}
-use Rattle.pieces.specs.Pieces.{trimmed, wordFrom}
-use Rattle.pieces.specs.Lists.{oneWordOf}
+use Rattle.pieces.specs.Pieces.{trimmed, word_from}
+use Rattle.pieces.specs.Lists.{one_word_of}
 
-pub trimmed-fits : (s : List ℕ) → trimmed s ≤ length s
+pub trimmed_fits : (s : List ℕ) → trimmed s ≤ length s
 unfolding trimmed
-trimmed-fits [] = omega arith
-trimmed-fits (b ∷ t) = let h = trimmed-fits t in pick-le (space b && eqb (trimmed t) 0) 0 (suc (trimmed t)) (suc (length t)) (omega arith) (omega arith)
+trimmed_fits [] = omega arith
+trimmed_fits (b ∷ t) = let h = trimmed_fits t in pick_le (space b && eqb (trimmed t) 0) 0 (suc (trimmed t)) (suc (length t)) (omega arith) (omega arith)
 
 -- One byte more at the end.
-trimmed-space : (xs : List ℕ) (b : ℕ) → space b ≡ true → trimmed (xs ++ b ∷ []) ≡ trimmed xs
+trimmed_space : (xs : List ℕ) (b : ℕ) → space b ≡ true → trimmed (xs ++ b ∷ []) ≡ trimmed xs
 unfolding trimmed
-trimmed-space [] b e = rw e
-trimmed-space (x ∷ xs) b e = rw (trimmed-space xs b e)
+trimmed_space [] b e = rw e
+trimmed_space (x ∷ xs) b e = rw (trimmed_space xs b e)
 
-trimmed-letter : (xs : List ℕ) (b : ℕ) → space b ≡ false → trimmed (xs ++ b ∷ []) ≡ suc (length xs)
+trimmed_letter : (xs : List ℕ) (b : ℕ) → space b ≡ false → trimmed (xs ++ b ∷ []) ≡ suc (length xs)
 unfolding trimmed
-trimmed-letter [] b e = rw e
-trimmed-letter (x ∷ xs) b e = rw (trimmed-letter xs b e, ne_eqb (suc (length xs)) 0 (λ z. omega arith), and-false)
+trimmed_letter [] b e = rw e
+trimmed_letter (x ∷ xs) b e = rw (trimmed_letter xs b e, ne_eqb (suc (length xs)) 0 (λ z. omega arith), and_false)
 
 -- ---- what stands after the content: spaces alone
 
@@ -60,9 +60,9 @@ data Ended (s : List ℕ) : Type 0 where
   ended : take (trimmed s) s ≡ s → Ended s
   spaced : (ys : List ℕ) → take (trimmed s) s ++ 0x20 ∷ ys ≡ s → Ended s
 
-how-ended : (s : List ℕ) → Ended s
+how_ended : (s : List ℕ) → Ended s
 unfolding count
-how-ended s =
+how_ended s =
     both (ltb (trimmed s) (length s))
     (λ t.
     let l = ltb-true (trimmed s) (length s) t in
@@ -75,31 +75,31 @@ how-ended s =
 
 -- ---- the content is whole exactly where the text is, and else has the text's first fault
 
-pub trimmed-whole : (s : List ℕ) → Whole s → Whole (take (trimmed s) s)
-trimmed-whole s w = go (how-ended s)
+pub trimmed_whole : (s : List ℕ) → Whole s → Whole (take (trimmed s) s)
+trimmed_whole s w = go (how_ended s)
   where
     go : Ended s → Whole (take (trimmed s) s)
     go (ended e) = rw e w
-    go (spaced ys e) = cut-before (take (trimmed s) s) ys 0x20 (omega arith) (rw e w)
+    go (spaced ys e) = cut_before (take (trimmed s) s) ys 0x20 (omega arith) (rw e w)
 
-spaces-all : (t : List ℕ) → count space t ≡ length t → Whole t
-unfolding count firstFault bytes decode_from
-spaces-all [] e = refl
-spaces-all (b ∷ t) e =
+spaces_all : (t : List ℕ) → count space t ≡ length t → Whole t
+unfolding count first_fault bytes decode_from
+spaces_all [] e = refl
+spaces_all (b ∷ t) e =
     both (space b)
     (λ p.
     let z = eqb-true b 0x20 p in
-    let d = head-char (b ∷ t) (head-low b t (omega arith)) in
+    let d = head_char (b ∷ t) (head_low b t (omega arith)) in
     let e' : suc (count space t) ≡ suc (length t) = rw p at e in
-    let h : Whole t = spaces-all t (omega arith) in
+    let h : Whole t = spaces_all t (omega arith) in
     omega (arith, ap bytes d))
     (λ p. let e' : 0 ≡ suc (length t) = rw p at e in absurd (omega arith))
 
-pub untrimmed-whole : (s : List ℕ) → Whole (take (trimmed s) s) → Whole s
-untrimmed-whole s w =
-    let f = rw (take-append-drop (trimmed s) s) at (fault-append (take (trimmed s) s) (drop (trimmed s) s) w) in
-    let h : Whole (drop (trimmed s) s) = spaces-all (drop (trimmed s) s) (trailing s ∙ sym (length-drop (trimmed s) s)) in
-    omega (arith, length-drop (trimmed s) s, length-take-le (trimmed s) s (trimmed-fits s), trimmed-fits s)
+pub untrimmed_whole : (s : List ℕ) → Whole (take (trimmed s) s) → Whole s
+untrimmed_whole s w =
+    let f = rw (take-append-drop (trimmed s) s) at (fault_append (take (trimmed s) s) (drop (trimmed s) s) w) in
+    let h : Whole (drop (trimmed s) s) = spaces_all (drop (trimmed s) s) (trailing s ∙ sym (length-drop (trimmed s) s)) in
+    omega (arith, length-drop (trimmed s) s, length-take-le (trimmed s) s (trimmed_fits s), trimmed_fits s)
 
 -- What is no character before a byte below 80 is none without it.
 none_before : (b ys : List ℕ) (x : ℕ) → x < 0x80 → 0 < length b → head_of b ≡ Nothing → head_of (b ++ x ∷ ys) ≡ Nothing
@@ -107,24 +107,24 @@ none_before [] ys x low l e = absurd (omega arith)
 none_before (a ∷ b) ys x low l e = go (head_of (a ∷ b ++ x ∷ ys)) refl
   where
     go : (h : Head) → head_of (a ∷ b ++ x ∷ ys) ≡ h → head_of (a ∷ b ++ x ∷ ys) ≡ Nothing
-    go (Found c k) p = let d = head-cut (a ∷ b) (x ∷ ys) p (ends-before a b ys x low p) in cc
+    go (Found c k) p = let d = head_cut (a ∷ b) (x ∷ ys) p (ends_before a b ys x low p) in cc
     go Nothing p = p
 
-fault-cut : (t ys : List ℕ) (x : ℕ) → x < 0x80 → firstFault t < length t → firstFault (t ++ x ∷ ys) ≡ firstFault t
-fault-cut t ys x low l =
+fault_cut : (t ys : List ℕ) (x : ℕ) → x < 0x80 → first_fault t < length t → first_fault (t ++ x ∷ ys) ≡ first_fault t
+fault_cut t ys x low l =
     let c = split t in
-    let f = rw c.joined at (fault-only c.front c.back c.whole c.none) in
+    let f = rw c.joined at (fault_only c.front c.back c.whole c.none) in
     let n = length-append c.front c.back in
     let j = ap length c.joined in
     let a : t ++ x ∷ ys ≡ c.front ++ (c.back ++ x ∷ ys) = sym (ap (λ u. u ++ x ∷ ys) c.joined) ∙ append_assoc c.front c.back (x ∷ ys) in
-    ap firstFault a ∙ fault-only c.front (c.back ++ x ∷ ys) c.whole (none_before c.back ys x low (omega arith) c.none) ∙ sym f
+    ap first_fault a ∙ fault_only c.front (c.back ++ x ∷ ys) c.whole (none_before c.back ys x low (omega arith) c.none) ∙ sym f
 
-pub trimmed-fault : (s : List ℕ) → firstFault (take (trimmed s) s) < trimmed s → firstFault s ≡ firstFault (take (trimmed s) s)
-trimmed-fault s l = go (how-ended s)
+pub trimmed_fault : (s : List ℕ) → first_fault (take (trimmed s) s) < trimmed s → first_fault s ≡ first_fault (take (trimmed s) s)
+trimmed_fault s l = go (how_ended s)
   where
-    go : Ended s → firstFault s ≡ firstFault (take (trimmed s) s)
+    go : Ended s → first_fault s ≡ first_fault (take (trimmed s) s)
     go (ended e) = rw e
-    go (spaced ys e) = ap firstFault (sym e) ∙ fault-cut (take (trimmed s) s) ys 0x20 (omega arith) (omega (arith, length-take-le (trimmed s) s (trimmed-fits s)))
+    go (spaced ys e) = ap first_fault (sym e) ∙ fault_cut (take (trimmed s) s) ys 0x20 (omega arith) (omega (arith, length-take-le (trimmed s) s (trimmed_fits s)))
 
 -- ---- the loop of `content_end`
 
@@ -132,64 +132,64 @@ pub record Trimming (s : List ℕ) (end : ℕ) : Type 0 where
   pub inside : end ≤ length s
   pub same : trimmed (take end s) ≡ trimmed s
 
-pub trimming-start : (s : List ℕ) → Trimming s (length s)
-trimming-start s = record { inside = omega arith; same = rw (take-length s) }
+pub trimming_start : (s : List ℕ) → Trimming s (length s)
+trimming_start s = record { inside = omega arith; same = rw (take-length s) }
 
 last_byte : (s : List ℕ) (end : ℕ) → 0 < end → end ≤ length s → take end s ≡ take (end - 1) s ++ get_or s (end - 1) 0 ∷ []
 last_byte s end p l = let z : end ≡ suc (end - 1) = omega arith in ap (λ n. take n s) z ∙ take-suc s (end - 1) 0 (omega arith)
 
-pub trimming-step : {s : List ℕ} {end : ℕ} {t : Bool} → Trimming s end → 0 < end → t ≡ space (get_or s (end - 1) 0) → t ≡ true → Trimming s (end - 1)
-trimming-step {s} {end} {t} k p e q =
-    record { inside = omega (arith, k.inside); same = sym (trimmed-space (take (end - 1) s) (get_or s (end - 1) 0) (sym e ∙ q)) ∙ rw (last_byte s end p k.inside) at k.same }
+pub trimming_step : {s : List ℕ} {end : ℕ} {t : Bool} → Trimming s end → 0 < end → t ≡ space (get_or s (end - 1) 0) → t ≡ true → Trimming s (end - 1)
+trimming_step {s} {end} {t} k p e q =
+    record { inside = omega (arith, k.inside); same = sym (trimmed_space (take (end - 1) s) (get_or s (end - 1) 0) (sym e ∙ q)) ∙ rw (last_byte s end p k.inside) at k.same }
 
-pub trimming-stop : {s : List ℕ} {end : ℕ} {t : Bool} → Trimming s end → 0 < end → t ≡ space (get_or s (end - 1) 0) → t ≡ false → end ≡ trimmed s
-trimming-stop {s} {end} {t} k p e q =
-    let a = trimmed-letter (take (end - 1) s) (get_or s (end - 1) 0) (sym e ∙ q) in
+pub trimming_stop : {s : List ℕ} {end : ℕ} {t : Bool} → Trimming s end → 0 < end → t ≡ space (get_or s (end - 1) 0) → t ≡ false → end ≡ trimmed s
+trimming_stop {s} {end} {t} k p e q =
+    let a = trimmed_letter (take (end - 1) s) (get_or s (end - 1) 0) (sym e ∙ q) in
     let b = rw (last_byte s end p k.inside) at k.same in
     omega (arith, k.inside, length-take-le (end - 1) s (omega (arith, k.inside)))
 
-pub trimming-end : {s : List ℕ} {end : ℕ} → Trimming s end → end ≤ 0 → end ≡ trimmed s
+pub trimming_end : {s : List ℕ} {end : ℕ} → Trimming s end → end ≤ 0 → end ≡ trimmed s
 unfolding trimmed
-trimming-end {s} {end} k p = let z : end ≡ 0 = omega arith in let b : 0 ≡ trimmed s = rw z at k.same in omega arith
+trimming_end {s} {end} k p = let z : end ≡ 0 = omega arith in let b : 0 ≡ trimmed s = rw z at k.same in omega arith
 
-pub ruleset trimming = (trimming-start, trimming-step, trimming-stop, trimming-end, not-true, not-false)
+pub ruleset trimming = (trimming_start, trimming_step, trimming_stop, trimming_end, not-true, not-false)
 
 -- ---- what `word_from` answers
 
-pub one-long : (s : List ℕ) → textMost < length s → TooLong (record { 0 = length s }) ≡ oneWordOf s
-unfolding oneWordOf
-one-long s l = rw (lt-ltb textMost (length s) l)
+pub one_long : (s : List ℕ) → text_most < length s → TooLong (record { 0 = length s }) ≡ one_word_of s
+unfolding one_word_of
+one_long s l = rw (lt-ltb text_most (length s) l)
 
-module _ (s : List ℕ) {e : ℕ} {r : Passed} (l : length s ≤ textMost) (q : e ≡ trimmed s) (p : r ≡ passedOf 0xFFFFFFFF (take e s) 0) where
-  read : r ≡ pick (leb (length (take (trimmed s) s)) (firstFault (take (trimmed s) s))) (passed.To (record { 0 = width_of (take (trimmed s) s) }) (record { 0 = firstFault (take (trimmed s) s) }))
-      (passed.Fault (record { 0 = firstFault (take (trimmed s) s) }))
+module _ (s : List ℕ) {e : ℕ} {r : Passed} (l : length s ≤ text_most) (q : e ≡ trimmed s) (p : r ≡ passed_of 0xFFFFFFFF (take e s) 0) where
+  read : r ≡ pick (leb (length (take (trimmed s) s)) (first_fault (take (trimmed s) s))) (passed.To (record { 0 = width_of (take (trimmed s) s) }) (record { 0 = first_fault (take (trimmed s) s) }))
+      (passed.Fault (record { 0 = first_fault (take (trimmed s) s) }))
   read = p ∙ walked (take e s) ∙ rw q
 
-  pub one-made : {w : Columns} {o : Offset} → r ≡ passed.To w o → Made (record { start = record { 0 = 0 }; end = record { 0 = e }; white = record { 0 = length s - e }; width = w }) ≡ oneWordOf s
-  unfolding oneWordOf wordFrom
-  one-made {w} {o} h =
-      both (leb (length (take (trimmed s) s)) (firstFault (take (trimmed s) s)))
+  pub one_made : {w : Columns} {o : Offset} → r ≡ passed.To w o → Made (record { start = record { 0 = 0 }; end = record { 0 = e }; white = record { 0 = length s - e }; width = w }) ≡ one_word_of s
+  unfolding one_word_of word_from
+  one_made {w} {o} h =
+      both (leb (length (take (trimmed s) s)) (first_fault (take (trimmed s) s)))
       (λ t.
-      let z : passed.To w o ≡ passed.To (record { 0 = width_of (take (trimmed s) s) }) (record { 0 = firstFault (take (trimmed s) s) }) = sym h ∙ read ∙ rw t in
+      let z : passed.To w o ≡ passed.To (record { 0 = width_of (take (trimmed s) s) }) (record { 0 = first_fault (take (trimmed s) s) }) = sym h ∙ read ∙ rw t in
       let x : w ≡ record { 0 = width_of (take (trimmed s) s) } = cc in
-      let v : Whole (take (trimmed s) s) = omega (arith, fault-fits (take (trimmed s) s), leb-true (length (take (trimmed s) s)) (firstFault (take (trimmed s) s)) t) in
-      rw (le-ltb textMost (length s) l, le-ltb (firstFault s) (length s) (omega (arith, untrimmed-whole s v)), q, x))
-      (λ t. let z : passed.To w o ≡ passed.Fault (record { 0 = firstFault (take (trimmed s) s) }) = sym h ∙ read ∙ rw t in cc)
+      let v : Whole (take (trimmed s) s) = omega (arith, fault_fits (take (trimmed s) s), leb-true (length (take (trimmed s) s)) (first_fault (take (trimmed s) s)) t) in
+      rw (le-ltb text_most (length s) l, le-ltb (first_fault s) (length s) (omega (arith, untrimmed_whole s v)), q, x))
+      (λ t. let z : passed.To w o ≡ passed.Fault (record { 0 = first_fault (take (trimmed s) s) }) = sym h ∙ read ∙ rw t in cc)
 
-  pub one-fault : {o : Offset} → r ≡ passed.Fault o → NotUtf8 o ≡ oneWordOf s
-  unfolding oneWordOf
-  one-fault {o} h =
-      both (leb (length (take (trimmed s) s)) (firstFault (take (trimmed s) s)))
-      (λ t. let z : passed.Fault o ≡ passed.To (record { 0 = width_of (take (trimmed s) s) }) (record { 0 = firstFault (take (trimmed s) s) }) = sym h ∙ read ∙ rw t in cc)
+  pub one_fault : {o : Offset} → r ≡ passed.Fault o → NotUtf8 o ≡ one_word_of s
+  unfolding one_word_of
+  one_fault {o} h =
+      both (leb (length (take (trimmed s) s)) (first_fault (take (trimmed s) s)))
+      (λ t. let z : passed.Fault o ≡ passed.To (record { 0 = width_of (take (trimmed s) s) }) (record { 0 = first_fault (take (trimmed s) s) }) = sym h ∙ read ∙ rw t in cc)
       (λ t.
-      let z : passed.Fault o ≡ passed.Fault (record { 0 = firstFault (take (trimmed s) s) }) = sym h ∙ read ∙ rw t in
-      let x : o ≡ record { 0 = firstFault (take (trimmed s) s) } = cc in
-      let n = length-take-le (trimmed s) s (trimmed-fits s) in
-      let b = leb-false (length (take (trimmed s) s)) (firstFault (take (trimmed s) s)) t in
-      let f = trimmed-fault s (omega arith) in
-      rw (le-ltb textMost (length s) l, lt-ltb (firstFault s) (length s) (omega (arith, f, trimmed-fits s)), x, f))
+      let z : passed.Fault o ≡ passed.Fault (record { 0 = first_fault (take (trimmed s) s) }) = sym h ∙ read ∙ rw t in
+      let x : o ≡ record { 0 = first_fault (take (trimmed s) s) } = cc in
+      let n = length-take-le (trimmed s) s (trimmed_fits s) in
+      let b = leb-false (length (take (trimmed s) s)) (first_fault (take (trimmed s) s)) t in
+      let f = trimmed_fault s (omega arith) in
+      rw (le-ltb text_most (length s) l, lt-ltb (first_fault s) (length s) (omega (arith, f, trimmed_fits s)), x, f))
 
 pub one_inside : (s : List ℕ) {e : ℕ} → e ≡ trimmed s → e ≤ length s
-one_inside s q = omega (arith, trimmed-fits s)
+one_inside s q = omega (arith, trimmed_fits s)
 
-pub ruleset making = (one-long, one-made, one-fault, one_inside)
+pub ruleset making = (one_long, one_made, one_fault, one_inside)

@@ -4,11 +4,11 @@ use Rattle.logic.specs.Choice.{pick}
 use Rattle.chars.specs.Utf8.{Chr, decode, Whole}
 use Rattle.measure.specs.declared.Mode.{Mode}
 use Rattle.measure.specs.declared.Mode.TheVariants.{Text}
-use Rattle.measure.specs.Escapes.{next, taken, width_of, modeAfter}
+use Rattle.measure.specs.Escapes.{next, taken, width_of, mode_after}
 use Rattle.words.specs.declared.Word.{Word}
-use Rattle.words.specs.Bytes.{contentOf}
+use Rattle.words.specs.Bytes.{content_of}
 
--- The bytes of a word or piece of the text s, its content and whitespace. (`contentOf` is that of words.)
+-- The bytes of a word or piece of the text s, its content and whitespace. (`content_of` is that of words.)
 abbrev pub bytes_of : List ℕ → Word → List ℕ
 bytes_of s x = take (x.end.0 + x.white.0 - x.start.0) (drop x.start.0 s)
 
@@ -29,9 +29,9 @@ takers m (x ∷ xs) = pick (ltb 0 (taken m x.code)) 1 0 + takers (next m x.code)
 
 -- A piece, or a word that is kept, at width w: of whole characters and of their width; and if it is wider than w, exactly one of them takes columns.
 pub record Good (s : List ℕ) (w : ℕ) (p : Word) : Type 0 where
-  pub whole : Whole (contentOf s p)
-  pub width : p.width.0 ≡ width_of (contentOf s p)
-  pub wide : w < p.width.0 → takers Text (decode (contentOf s p)) ≡ 1
+  pub whole : Whole (content_of s p)
+  pub width : p.width.0 ≡ width_of (content_of s p)
+  pub wide : w < p.width.0 → takers Text (decode (content_of s p)) ≡ 1
 
 -- It has content.
 abbrev pub Some : Word → Type 0
@@ -41,12 +41,12 @@ Some p = p.start.0 < p.end.0
 pub record Follows (s : List ℕ) (w : ℕ) (p q : Word) : Type 0 where
   pub first : Chr
   pub others : List Chr
-  pub chars : decode (contentOf s q) ≡ first ∷ others
+  pub chars : decode (content_of s q) ≡ first ∷ others
   pub joins : q.start.0 ≡ p.end.0
   pub takes : 0 < taken Text first.code
   pub above : 0 < p.width.0
   pub full : w < p.width.0 + taken Text first.code
-  pub text : modeAfter Text (decode (contentOf s p)) ≡ Text
+  pub text : mode_after Text (decode (content_of s p)) ≡ Text
   pub white : p.white.0 ≡ 0
 
 -- The last piece of a content that ends at e, with k spaces after it.

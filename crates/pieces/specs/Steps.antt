@@ -5,7 +5,7 @@ use Rattle.logic.specs.Count.{count}
 use Rattle.logic.specs.Items.{items}
 use Rattle.chars.specs.Utf8.{bytes}
 use Rattle.measure.specs.declared.Mode.TheVariants.{Text}
-use Rattle.measure.specs.Escapes.{widthFrom}
+use Rattle.measure.specs.Escapes.{width_from}
 use Rattle.measure.specs.Walk.{ahead}
 use Rattle.words.specs.declared.Word.{Word}
 use Rattle.words.specs.Words.{space}
@@ -16,7 +16,7 @@ use Rattle.pieces.specs.Pieces.{piece, trimmed}
 unfoldable pub cut_at : ℕ → ℕ → List ℕ → ℕ → Cut
 cut_at stop w s i = record {
   end = record { 0 = i + bytes (piece w (ahead stop s i)) };
-  width = record { 0 = widthFrom Text (piece w (ahead stop s i)) };
+  width = record { 0 = width_from Text (piece w (ahead stop s i)) };
 }
 
 -- The two ways to break: the whole text as one word, whose content ends at `last` and has no character to stop before; and all words of the text, each up to a space.
@@ -25,22 +25,22 @@ pub data Way : ℕ → ℕ → List ℕ → Type 0 where
   all_words : (s : List ℕ) → Way 0x20 (length s) s
 
 -- The spaces that belong to a piece that ends at e: those after a word's content, none where the word goes on.
-unfoldable pub spacesAfter : ℕ → ℕ → List ℕ → ℕ → ℕ
-spacesAfter stop last s e = pick (eqb e last || eqb stop 0x20) (count space (drop e s)) 0
+unfoldable pub spaces_after : ℕ → ℕ → List ℕ → ℕ → ℕ
+spaces_after stop last s e = pick (eqb e last || eqb stop 0x20) (count space (drop e s)) 0
 
-unfoldable pub stepEnd : ℕ → ℕ → ℕ → List ℕ → ℕ → ℕ
-stepEnd stop last w s i = i + bytes (piece w (ahead stop (take last s) i))
+unfoldable pub step_end : ℕ → ℕ → ℕ → List ℕ → ℕ → ℕ
+step_end stop last w s i = i + bytes (piece w (ahead stop (take last s) i))
 
-unfoldable pub stepPiece : ℕ → ℕ → ℕ → List ℕ → ℕ → Word
-stepPiece stop last w s i = record {
+unfoldable pub step_piece : ℕ → ℕ → ℕ → List ℕ → ℕ → Word
+step_piece stop last w s i = record {
   start = record { 0 = i };
-  end = record { 0 = stepEnd stop last w s i };
-  white = record { 0 = spacesAfter stop last s (stepEnd stop last w s i) };
-  width = record { 0 = widthFrom Text (piece w (ahead stop (take last s) i)) };
+  end = record { 0 = step_end stop last w s i };
+  white = record { 0 = spaces_after stop last s (step_end stop last w s i) };
+  width = record { 0 = width_from Text (piece w (ahead stop (take last s) i)) };
 }
 
-unfoldable pub afterStep : ℕ → ℕ → ℕ → List ℕ → ℕ → ℕ
-afterStep stop last w s i = stepEnd stop last w s i + spacesAfter stop last s (stepEnd stop last w s i)
+unfoldable pub after_step : ℕ → ℕ → ℕ → List ℕ → ℕ → ℕ
+after_step stop last w s i = step_end stop last w s i + spaces_after stop last s (step_end stop last w s i)
 
-unfoldable pub stepPieces : ℕ → ℕ → ℕ → List ℕ → ℕ → List Word
-stepPieces stop last w s i = items (stepPiece stop last w s) (afterStep stop last w s) last i
+unfoldable pub step_pieces : ℕ → ℕ → ℕ → List ℕ → ℕ → List Word
+step_pieces stop last w s i = items (step_piece stop last w s) (after_step stop last w s) last i

@@ -5,12 +5,12 @@
 // pieces out.
 ghost use Rattle.std.specs.Prelude.{◌≡◌, ◌≤◌, min, map, length};
 ghost use Rattle.std.proofs.lemmas.List.Edits.{sets};
-ghost use Rattle.units.specs.Limits.{textMost};
+ghost use Rattle.units.specs.Limits.{text_most};
 ghost use Rattle.chars.specs.Utf8.{Whole};
-ghost use Rattle.words.specs.Lists.{start_of, end_of, whiteOf, widthOfWord, Room};
-ghost use Rattle.pieces.specs.Pieces.{starts, trimmed, breakApart, breakWords};
-ghost use Rattle.pieces.specs.Lists.{oneWordOf, wordAnswerOf, brokenOf, Lists, answer_of, pieces_by};
-ghost use Rattle.pieces.specs.Steps.{Way, cut_at, spacesAfter, stepPiece};
+ghost use Rattle.words.specs.Lists.{start_of, end_of, white_of, width_of_word, Room};
+ghost use Rattle.pieces.specs.Pieces.{starts, trimmed, break_apart, break_words};
+ghost use Rattle.pieces.specs.Lists.{one_word_of, word_answer_of, broken_of, Lists, answer_of, pieces_by};
+ghost use Rattle.pieces.specs.Steps.{Way, cut_at, spaces_after, step_piece};
 
 use chars::{Checked, Read};
 use measure::{Mode, NO_STOP, Passed};
@@ -105,7 +105,7 @@ pub fn content_end(text: &[u8]) -> usize
 
 // A text as one word: the spaces at its end are its whitespace, and the rest its content.
 pub fn word_from(text: &[u8]) -> OneWord
-    ensures { result ≡ oneWordOf text.now }
+    ensures { result ≡ one_word_of text.now }
 {
     if TEXT_MOST < text.len() {
         return OneWord::TooLong(Offset(text.len()));
@@ -128,7 +128,7 @@ pub fn word_from(text: &[u8]) -> OneWord
 // How many spaces belong to a piece that ends at a place: those that follow a word's content, and none
 // where the word goes on.
 fn spaces_after(text: &[u8], end: usize, last: usize, stop: u32) -> usize
-    ensures { result ≡ spacesAfter stop last text.now end }
+    ensures { result ≡ spaces_after stop last text.now end }
 {
     if (end == last) | (stop == SPACE_CHAR) {
         let after = words::space_end(text, end);
@@ -140,7 +140,7 @@ fn spaces_after(text: &[u8], end: usize, last: usize, stop: u32) -> usize
 // The piece that starts at a place. The content ends at `last`; a word in it ends before `stop`.
 pub fn next_piece(text: &[u8], at: Offset, last: usize, stop: u32, width: Columns) -> Word
     requires { last ≤ length text.now }
-    ensures { result ≡ stepPiece stop last width.0 text.now at.0 }
+    ensures { result ≡ step_piece stop last width.0 text.now at.0 }
 {
     let found = cut_from(&text[..last], at, stop, width);
     let end = found.end;
@@ -181,12 +181,12 @@ fn write_pieces(
     whites: &mut [u32],
     widths: &mut [u32],
 )
-    requires text_len_bound { (length text.now ≤ textMost) × Way stop last text.now × Whole text.now }
+    requires text_len_bound { (length text.now ≤ text_most) × Way stop last text.now × Whole text.now }
     requires room { Room (length (pieces_by stop text.now width.0)) starts.old ends.old whites.old widths.old }
     ensures starts_after { starts.new ≡ sets starts.old 0 (map start_of (pieces_by stop text.now width.0)) }
     ensures ends_after { ends.new ≡ sets ends.old 0 (map end_of (pieces_by stop text.now width.0)) }
-    ensures whites_after { whites.new ≡ sets whites.old 0 (map whiteOf (pieces_by stop text.now width.0)) }
-    ensures widths_after { widths.new ≡ sets widths.old 0 (map widthOfWord (pieces_by stop text.now width.0)) }
+    ensures whites_after { whites.new ≡ sets whites.old 0 (map white_of (pieces_by stop text.now width.0)) }
+    ensures widths_after { widths.new ≡ sets widths.old 0 (map width_of_word (pieces_by stop text.now width.0)) }
 {
     let mut at = Offset(0);
     let mut k = 0;
@@ -212,11 +212,11 @@ fn list_pieces(
     widths: &mut [u32],
 ) -> Broken
     requires { Way stop last text.now }
-    ensures value { result ≡ brokenOf text.now width (min (min (length starts.old) (length ends.old)) (min (length whites.old) (length widths.old))) (pieces_by stop text.now width) }
+    ensures value { result ≡ broken_of text.now width (min (min (length starts.old) (length ends.old)) (min (length whites.old) (length widths.old))) (pieces_by stop text.now width) }
     ensures starts_after { starts.new ≡ Lists result (map start_of (pieces_by stop text.now width)) starts.old }
     ensures ends_after { ends.new ≡ Lists result (map end_of (pieces_by stop text.now width)) ends.old }
-    ensures whites_after { whites.new ≡ Lists result (map whiteOf (pieces_by stop text.now width)) whites.old }
-    ensures widths_after { widths.new ≡ Lists result (map widthOfWord (pieces_by stop text.now width)) widths.old }
+    ensures whites_after { whites.new ≡ Lists result (map white_of (pieces_by stop text.now width)) whites.old }
+    ensures widths_after { widths.new ≡ Lists result (map width_of_word (pieces_by stop text.now width)) widths.old }
 {
     if TEXT_MOST < text.len() {
         return Broken::TooLong(Offset(text.len()));
@@ -248,11 +248,11 @@ pub fn break_apart(
     whites: &mut [u32],
     widths: &mut [u32],
 ) -> Broken
-    ensures value { result ≡ brokenOf text.now width (min (min (length starts.old) (length ends.old)) (min (length whites.old) (length widths.old))) (breakApart text.now width) }
-    ensures starts_after { starts.new ≡ Lists result (map start_of (breakApart text.now width)) starts.old }
-    ensures ends_after { ends.new ≡ Lists result (map end_of (breakApart text.now width)) ends.old }
-    ensures whites_after { whites.new ≡ Lists result (map whiteOf (breakApart text.now width)) whites.old }
-    ensures widths_after { widths.new ≡ Lists result (map widthOfWord (breakApart text.now width)) widths.old }
+    ensures value { result ≡ broken_of text.now width (min (min (length starts.old) (length ends.old)) (min (length whites.old) (length widths.old))) (break_apart text.now width) }
+    ensures starts_after { starts.new ≡ Lists result (map start_of (break_apart text.now width)) starts.old }
+    ensures ends_after { ends.new ≡ Lists result (map end_of (break_apart text.now width)) ends.old }
+    ensures whites_after { whites.new ≡ Lists result (map white_of (break_apart text.now width)) whites.old }
+    ensures widths_after { widths.new ≡ Lists result (map width_of_word (break_apart text.now width)) widths.old }
 {
     let last = content_end(text);
     list_pieces(text, last, NO_STOP, width, starts, ends, whites, widths)
@@ -267,11 +267,11 @@ pub fn break_words(
     whites: &mut [u32],
     widths: &mut [u32],
 ) -> Broken
-    ensures value { result ≡ brokenOf text.now width (min (min (length starts.old) (length ends.old)) (min (length whites.old) (length widths.old))) (breakWords text.now width) }
-    ensures starts_after { starts.new ≡ Lists result (map start_of (breakWords text.now width)) starts.old }
-    ensures ends_after { ends.new ≡ Lists result (map end_of (breakWords text.now width)) ends.old }
-    ensures whites_after { whites.new ≡ Lists result (map whiteOf (breakWords text.now width)) whites.old }
-    ensures widths_after { widths.new ≡ Lists result (map widthOfWord (breakWords text.now width)) widths.old }
+    ensures value { result ≡ broken_of text.now width (min (min (length starts.old) (length ends.old)) (min (length whites.old) (length widths.old))) (break_words text.now width) }
+    ensures starts_after { starts.new ≡ Lists result (map start_of (break_words text.now width)) starts.old }
+    ensures ends_after { ends.new ≡ Lists result (map end_of (break_words text.now width)) ends.old }
+    ensures whites_after { whites.new ≡ Lists result (map white_of (break_words text.now width)) whites.old }
+    ensures widths_after { widths.new ≡ Lists result (map width_of_word (break_words text.now width)) widths.old }
 {
     let last = text.len();
     list_pieces(text, last, SPACE_CHAR, width, starts, ends, whites, widths)
@@ -292,7 +292,7 @@ pub fn answer_of(b: Broken) -> Answer
 
 // The numbers of document 01 for a text as one word.
 pub fn word_answer_of(w: OneWord) -> Answer
-    ensures { result ≡ wordAnswerOf w }
+    ensures { result ≡ word_answer_of w }
 {
     match w {
         OneWord::Made(_) => units::done(1),

@@ -1,14 +1,14 @@
 -- Document 01, "Words and pieces": the reader that holds the lent text and its offset.
 use Rattle.std.specs.Prelude.{ℕ, zero, suc, List, [], ◌∷◌, ltb, length}
 use Rattle.units.specs.declared.Answer.{Answer}
-use Rattle.units.specs.Limits.{textMost}
+use Rattle.units.specs.Limits.{text_most}
 use Rattle.units.specs.Answers.{success, refusal}
 use Rattle.logic.specs.Choice.{pick}
-use Rattle.chars.specs.Utf8.{firstFault}
+use Rattle.chars.specs.Utf8.{first_fault}
 use Rattle.words.specs.declared.Word.{Word}
 use Rattle.words.specs.declared.Step.{Step}
 use Rattle.words.specs.declared.Step.TheVariants as step
-use Rattle.words.specs.Words.{stepAt}
+use Rattle.words.specs.Words.{step_at}
 use Rattle.reader.specs.declared.Opened.{Opened}
 use Rattle.reader.specs.declared.Opened.TheVariants.{Ready, TooLong, NotUtf8}
 use Rattle.reader.specs.declared.Opening.{Opening}
@@ -17,10 +17,10 @@ use Rattle.reader.specs.declared.Found.TheVariants.{Next, NoMore}
 use Rattle.reader.specs.declared.Turn.{Turn}
 
 -- "Opening tests 1 and 2 and starts at 0; if refused, the reader stands at the text's length."
-unfoldable pub openingOf : List ℕ → Opening
-openingOf s =
-    pick (ltb textMost (length s)) (record { answer = TooLong (record { 0 = length s }); at = record { 0 = length s } })
-    (pick (ltb (firstFault s) (length s)) (record { answer = NotUtf8 (record { 0 = firstFault s }); at = record { 0 = length s } })
+unfoldable pub opening_of : List ℕ → Opening
+opening_of s =
+    pick (ltb text_most (length s)) (record { answer = TooLong (record { 0 = length s }); at = record { 0 = length s } })
+    (pick (ltb (first_fault s) (length s)) (record { answer = NotUtf8 (record { 0 = first_fault s }); at = record { 0 = length s } })
     (record { answer = Ready; at = record { 0 = 0 } }))
 
 -- The document's numbers: 0 with count 0; 1 with the length; 2 with the first fault.
@@ -34,15 +34,15 @@ abbrev pub stay : ℕ → Turn
 stay i = record { found = NoMore; next = record { 0 = i } }
 
 -- What the step answers, as the reader's: a word; no more at the end; "also "no more" if .. a fault as in 2 lies in the word to be read".
-abbrev pub toTurn : ℕ → Step → Turn
-toTurn i (step.Found w o) = record { found = Next w; next = o }
-toTurn i step.End = stay i
-toTurn i (step.Fault o) = stay i
+abbrev pub to_turn : ℕ → Step → Turn
+to_turn i (step.Found w o) = record { found = Next w; next = o }
+to_turn i step.End = stay i
+to_turn i (step.Fault o) = stay i
 
 -- "It answers the words in order, then "no more" at each call, the offset staying; also "no more" if the text exceeds 60,000 bytes, its offset is past the end or a fault as in 2 lies in the word to
 -- be read."
 unfoldable pub turn_of : List ℕ → ℕ → Turn
-turn_of s i = pick (ltb textMost (length s)) (stay i) (toTurn i (stepAt s i))
+turn_of s i = pick (ltb text_most (length s)) (stay i) (to_turn i (step_at s i))
 
 -- The words that n calls answer, one after the other, from the offset i on: "no more" adds none.
 abbrev pub found : Found → List Word → List Word

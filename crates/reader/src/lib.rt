@@ -5,8 +5,8 @@
 // and `go_on` are the same over the struct that holds the text, and `next_of` goes through it for a
 // caller that has none.
 ghost use Rattle.std.specs.Prelude.{◌≡◌, ltb, length};
-ghost use Rattle.units.specs.Limits.{textMost};
-ghost use Rattle.reader.specs.Reader.{openingOf, answer_of, turn_of, stay};
+ghost use Rattle.units.specs.Limits.{text_most};
+ghost use Rattle.reader.specs.Reader.{opening_of, answer_of, turn_of, stay};
 
 use chars::Checked;
 use units::{Answer, Offset, TEXT_MOST};
@@ -50,14 +50,14 @@ pub struct Turn {
 
 // Whether a text exceeds the limit.
 fn is_long(text: &[u8]) -> bool
-    ensures { result ≡ ltb textMost (length text.now) }
+    ensures { result ≡ ltb text_most (length text.now) }
 {
     TEXT_MOST < text.len()
 }
 
 // What opening a text finds, and where a reader of it starts.
 pub fn open_at(text: &[u8]) -> Opening
-    ensures { result ≡ openingOf text.now }
+    ensures { result ≡ opening_of text.now }
 {
     let end = Offset(text.len());
     if is_long(text) {
@@ -118,7 +118,7 @@ fn turn_at(text: &[u8], at: Offset) -> Turn
 
 // A reader of a text, at where opening it starts.
 pub fn open<'a>(text: &'a [u8]) -> Reader<'a>
-    ensures { (result.text ≡ text.entry) × (result.at ≡ (openingOf text.now).at) }
+    ensures { (result.text ≡ text.entry) × (result.at ≡ (opening_of text.now).at) }
 {
     let opening = open_at(text);
     Reader {

@@ -5,54 +5,54 @@ use Rattle.record.specs.declared.Head.{Head}
 use Rattle.record.specs.declared.Head.TheVariants.{End, Refused, Job}
 use Rattle.record.specs.declared.Reply.{Reply}
 use Rattle.wire.specs.Wire.{be16}
-use Rattle.record.specs.Record.{head_of, settled, textAfter, replyHead, replyOf, bytes_of}
+use Rattle.record.specs.Record.{head_of, settled, text_after, reply_head, reply_of, bytes_of}
 
 -- The reply to a job, where `rest` is what comes after its head.
-abbrev pub jobReply : ℕ → ℕ → List ℕ → Reply
-jobReply w n rest = settled w n (length (take n rest)) (take n rest)
+abbrev pub job_reply : ℕ → ℕ → List ℕ → Reply
+job_reply w n rest = settled w n (length (take n rest)) (take n rest)
 
-abbrev pub jobBytes : ℕ → ℕ → List ℕ → List ℕ
-jobBytes w n rest = bytes_of (jobReply w n rest) (textAfter w n (length (take n rest)) (take n rest))
+abbrev pub job_bytes : ℕ → ℕ → List ℕ → List ℕ
+job_bytes w n rest = bytes_of (job_reply w n rest) (text_after w n (length (take n rest)) (take n rest))
 
 -- What is written to a record with a head, and `rest` after the head;
 abbrev pub served : Head → List ℕ → List ℕ
 served End rest = []
-served (Refused a) rest = bytes_of (replyOf a 0) []
-served (Job w n) rest = jobBytes w n rest
+served (Refused a) rest = bytes_of (reply_of a 0) []
+served (Job w n) rest = job_bytes w n rest
 
 -- whether the program goes on after it: "It .. stops silently at the end of input between records. After 1 it reads past the text and goes on. After replying 13 or 14 it stops";
-abbrev pub goesOn : Head → List ℕ → Bool
-goesOn End rest = false
-goesOn (Refused a) rest = false
-goesOn (Job w n) rest = (jobReply w n rest).more
+abbrev pub goes_on : Head → List ℕ → Bool
+goes_on End rest = false
+goes_on (Refused a) rest = false
+goes_on (Job w n) rest = (job_reply w n rest).more
 
 -- and how many bytes the record has after its first one.
-abbrev pub furtherBytes : Head → ℕ
-furtherBytes End = 0
-furtherBytes (Refused a) = 0
-furtherBytes (Job w n) = 4 + n
+abbrev pub further_bytes : Head → ℕ
+further_bytes End = 0
+further_bytes (Refused a) = 0
+further_bytes (Job w n) = 4 + n
 
 -- "It answers jobs in order": the replies to what comes after the first k bytes of an input,
-unfoldable pub repliesAfter : ℕ → List ℕ → List ℕ
-repliesAfter k [] = []
-repliesAfter (suc k) (a ∷ t) = repliesAfter k t
-repliesAfter zero (a ∷ t) =
-    served (head_of (a ∷ t)) (drop 4 t) ++ pick (goesOn (head_of (a ∷ t)) (drop 4 t)) (repliesAfter (furtherBytes (head_of (a ∷ t))) t) []
+unfoldable pub replies_after : ℕ → List ℕ → List ℕ
+replies_after k [] = []
+replies_after (suc k) (a ∷ t) = replies_after k t
+replies_after zero (a ∷ t) =
+    served (head_of (a ∷ t)) (drop 4 t) ++ pick (goes_on (head_of (a ∷ t)) (drop 4 t)) (replies_after (further_bytes (head_of (a ∷ t))) t) []
 
 -- and to a whole input.
 abbrev pub replies : List ℕ → List ℕ
-replies s = repliesAfter 0 s
+replies s = replies_after 0 s
 
 -- ---- records, written down
 
 -- A job of a width and a text.
-abbrev pub jobRecord : ℕ → List ℕ → List ℕ
-jobRecord w text = 0x57 ∷ 0x4A ∷ w ∷ be16 (length text) ++ text
+abbrev pub job_record : ℕ → List ℕ → List ℕ
+job_record w text = 0x57 ∷ 0x4A ∷ w ∷ be16 (length text) ++ text
 
 -- The reply to that job.
-abbrev pub replyRecord : ℕ → List ℕ → List ℕ
-replyRecord w text = bytes_of (settled w (length text) (length text) text) (textAfter w (length text) (length text) text)
+abbrev pub reply_record : ℕ → List ℕ → List ℕ
+reply_record w text = bytes_of (settled w (length text) (length text) text) (text_after w (length text) (length text) text)
 
 -- A reply after which the program stops.
-abbrev pub lastReply : ℕ → List ℕ
-lastReply number = replyHead number 0 0
+abbrev pub last_reply : ℕ → List ℕ
+last_reply number = reply_head number 0 0

@@ -2,7 +2,7 @@
 // the bytes of a reply. All that the program decides is decided here; the program itself only moves
 // bytes. How a text is filled stands in `fill`.
 ghost use Rattle.std.specs.Prelude.{◌≡◌, ◌<◌, ◌+◌, ◌*◌, ◌/◌, ◌%◌};
-ghost use Rattle.record.specs.Record.{isJob, head_of, keptOf, past_of, replyHead, replyOf, textAfter, settled};
+ghost use Rattle.record.specs.Record.{is_job, head_of, kept_of, past_of, reply_head, reply_of, text_after, settled};
 
 use units::{Answer, TEXT_MOST};
 
@@ -36,7 +36,7 @@ pub struct Reply {
 
 // Whether two bytes are the mark of a job.
 fn is_job(a: u8, b: u8) -> bool
-    ensures { result ≡ isJob a b }
+    ensures { result ≡ is_job a b }
 {
     let mark = b"WJ";
     (a == mark[0]) & (b == mark[1])
@@ -81,7 +81,7 @@ pub fn head_of(head: &[u8]) -> Head
 
 // How many bytes of a text are kept: no more than the buffer has.
 pub fn kept(len: u16) -> usize
-    ensures { result ≡ keptOf len }
+    ensures { result ≡ kept_of len }
 {
     let n = len as usize;
     if n < TEXT_MOST { n } else { TEXT_MOST }
@@ -111,7 +111,7 @@ fn low(v: u64) -> u8
 
 // The head of a reply: its mark, the answer, the count or place, and the length of the text.
 fn reply_head(number: u32, value: u64, len: u16) -> [u8; 7]
-    ensures { result ≡ replyHead number value len }
+    ensures { result ≡ reply_head number value len }
 {
     let mark = b"WR";
     let n = len as u64;
@@ -128,7 +128,7 @@ fn reply_head(number: u32, value: u64, len: u16) -> [u8; 7]
 
 // The reply that gives an answer to a record whose text has a length.
 pub fn reply_of(answer: Answer, len: u16) -> Reply
-    ensures { result ≡ replyOf answer len }
+    ensures { result ≡ reply_of answer len }
 {
     let number = answer.number;
     if number == 0 {
@@ -149,7 +149,7 @@ pub fn reply_of(answer: Answer, len: u16) -> Reply
 // as it was.
 pub fn settle(text: &mut [u8], width: u8, len: u16, came: usize) -> Reply
     ensures value { result ≡ settled width len came text.old }
-    ensures text_after { text.new ≡ textAfter width len came text.old }
+    ensures text_after { text.new ≡ text_after width len came text.old }
 {
     let n = len as usize;
     if came < n {

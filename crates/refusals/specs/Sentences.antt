@@ -1,6 +1,6 @@
 -- The sentences for all refusals, in one place. docs/REFUSALS.md has the same, word for word.
 use Rattle.std.specs.Prelude.{ℕ, List, [], ◌∷◌, ◌++◌, get_or}
-use Rattle.saying.specs.Saying.{decimalOf}
+use Rattle.saying.specs.Saying.{decimal_of}
 use Rattle.saying.specs.Ascii.{ascii}
 
 -- 0 is no refusal, and what comes after 14 is not in document 01.
@@ -8,19 +8,19 @@ abbrev pub unknown : List ℕ
 unknown = ascii "this number has no sentence here: see the handbook"
 
 -- "check: the two texts differ in length", with both lengths.
-abbrev pub lengthsDiffer : ℕ → ℕ → List ℕ
-lengthsDiffer before after =
-    (ascii "the texts differ in length: " ++ decimalOf before)
-    ++ ((ascii " bytes before, " ++ decimalOf after)
+abbrev pub lengths_differ : ℕ → ℕ → List ℕ
+lengths_differ before after =
+    (ascii "the texts differ in length: " ++ decimal_of before)
+    ++ ((ascii " bytes before, " ++ decimal_of after)
     ++ ascii " after")
 
 -- A sentence that ends with a number of columns.
-abbrev pub inColumns : List ℕ → ℕ → List ℕ
-inColumns words columns = (words ++ decimalOf columns) ++ ascii " columns"
+abbrev pub in_columns : List ℕ → ℕ → List ℕ
+in_columns words columns = (words ++ decimal_of columns) ++ ascii " columns"
 
 -- the most bytes that come after its words
-abbrev pub columnsMost : ℕ
-columnsMost = 28
+abbrev pub columns_most : ℕ
+columns_most = 28
 
 -- The sentence of each number, by its place in the list; for a width, and the lengths of the text before and of the text after.
 abbrev pub sentences : ℕ → ℕ → ℕ → List (List ℕ)
@@ -34,9 +34,9 @@ sentences width before after =
     ∷ ascii "a penalty is above 1000000"
     ∷ ascii "a list that was lent is too short"
     ∷ ascii "the least cost is above 9007199254740992"
-    ∷ lengthsDiffer before after
+    ∷ lengths_differ before after
     ∷ ascii "this change is no break: only the last space before a further word may become a newline"
-    ∷ inColumns (ascii "a line of two or more words is wider than ") width
+    ∷ in_columns (ascii "a line of two or more words is wider than ") width
     ∷ ascii "the words of this line of the text before need fewer lines"
     ∷ ascii "the record does not start with the mark of a job"
     ∷ ascii "the input ends inside a record"
@@ -46,5 +46,5 @@ unfoldable pub sentence : ℕ → ℕ → ℕ → ℕ → List ℕ
 sentence number width before after = get_or (sentences width before after) number unknown
 
 -- No sentence is longer.
-abbrev pub sentenceMost : ℕ
-sentenceMost = 128
+abbrev pub sentence_most : ℕ
+sentence_most = 128

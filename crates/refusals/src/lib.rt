@@ -3,9 +3,9 @@
 // the same for the handbook. When a refusal comes is not decided here.
 ghost use Rattle.std.specs.Prelude.{◌≡◌, ◌+◌, ◌≤◌, min, length};
 ghost use Rattle.saying.specs.Saying.{Said};
-ghost use Rattle.refusals.specs.Places.{startsCharacter, spot_of};
-ghost use Rattle.refusals.specs.Sentences.{sentenceMost, sentence, lengthsDiffer, columnsMost, inColumns};
-ghost use Rattle.refusals.specs.Lines.{lineMost, hasPlace, inAfter, shownPlace, placeWords, spotMost, placePart, partingMost, partingPart, refusalLine};
+ghost use Rattle.refusals.specs.Places.{starts_character, spot_of};
+ghost use Rattle.refusals.specs.Sentences.{sentence_most, sentence, lengths_differ, columns_most, in_columns};
+ghost use Rattle.refusals.specs.Lines.{line_most, has_place, in_after, shown_place, place_words, spot_most, place_part, parting_most, parting_part, refusal_line};
 
 use saying::{say, say_byte, say_named};
 use units::{Answer, TEXT_MOST};
@@ -36,7 +36,7 @@ pub struct Spot {
 
 // Whether a character is counted at a byte: not at one that is a further byte of a character.
 fn starts_character(b: u8) -> bool
-    ensures { result ≡ startsCharacter b }
+    ensures { result ≡ starts_character b }
 {
     !((0x80 <= b) & (b <= 0xBF))
 }
@@ -70,9 +70,9 @@ pub fn spot_of(text: &[u8], place: usize) -> Spot
 
 // Adds the sentence of 9, with both lengths.
 fn say_lengths(out: &mut [u8], at: usize, before: usize, after: usize) -> usize
-    requires { at + sentenceMost ≤ length out.old }
-    ensures said { Said out.old at (lengthsDiffer before after) result out.new }
-    ensures upper_bound { result ≤ at + sentenceMost }
+    requires { at + sentence_most ≤ length out.old }
+    ensures said { Said out.old at (lengths_differ before after) result out.new }
+    ensures upper_bound { result ≤ at + sentence_most }
 {
     let first = say_named(out, at, b"the texts differ in length: ", before as u64);
     let second = say_named(out, first, b" bytes before, ", after as u64);
@@ -81,9 +81,9 @@ fn say_lengths(out: &mut [u8], at: usize, before: usize, after: usize) -> usize
 
 // Adds words, a number of columns, and that it is columns.
 fn say_columns(out: &mut [u8], at: usize, words: &[u8], columns: u32) -> usize
-    requires { at + length words.now + columnsMost ≤ length out.old }
-    ensures said { Said out.old at (inColumns words.now columns) result out.new }
-    ensures upper_bound { result ≤ at + length words.now + columnsMost }
+    requires { at + length words.now + columns_most ≤ length out.old }
+    ensures said { Said out.old at (in_columns words.now columns) result out.new }
+    ensures upper_bound { result ≤ at + length words.now + columns_most }
 {
     let end = say_named(out, at, words, columns as u64);
     say(out, end, b" columns")
@@ -98,9 +98,9 @@ pub fn say_sentence(
     before: usize,
     after: usize,
 ) -> usize
-    requires { at + sentenceMost ≤ length out.old }
+    requires { at + sentence_most ≤ length out.old }
     ensures said { Said out.old at (sentence number width before after) result out.new }
-    ensures upper_bound { result ≤ at + sentenceMost }
+    ensures upper_bound { result ≤ at + sentence_most }
 {
     match number {
         1 => say(out, at, b"the text is longer than 60000 bytes"),
@@ -140,7 +140,7 @@ pub fn say_sentence(
 
 // Whether the place of a refusal is a byte of a text.
 fn has_place(number: u32) -> bool
-    ensures { result ≡ hasPlace number }
+    ensures { result ≡ has_place number }
 {
     (number == TOO_LONG)
         | (number == NOT_UTF8)
@@ -151,7 +151,7 @@ fn has_place(number: u32) -> bool
 
 // Whether a refusal is found in the text after, and not in the text before.
 fn in_after(number: u32, before: &[u8]) -> bool
-    ensures { result ≡ inAfter number before.now }
+    ensures { result ≡ in_after number before.now }
 {
     (number == BAD_CHANGE)
         | (number == WIDE_LINE)
@@ -160,7 +160,7 @@ fn in_after(number: u32, before: &[u8]) -> bool
 
 // The byte that is shown: of a text that is too long, the first one too many.
 fn shown_place(number: u32, place: u64) -> u64
-    ensures { result ≡ shownPlace number place }
+    ensures { result ≡ shown_place number place }
 {
     if number == TOO_LONG {
         TEXT_MOST as u64
@@ -171,9 +171,9 @@ fn shown_place(number: u32, place: u64) -> u64
 
 // Adds a byte of a text, and where a person finds it.
 fn say_spot(out: &mut [u8], at: usize, place: u64, text: &[u8]) -> usize
-    requires { at + spotMost ≤ length out.old }
-    ensures said { Said out.old at (placeWords place text.now) result out.new }
-    ensures upper_bound { result ≤ at + spotMost }
+    requires { at + spot_most ≤ length out.old }
+    ensures said { Said out.old at (place_words place text.now) result out.new }
+    ensures upper_bound { result ≤ at + spot_most }
 {
     let spot = spot_of(text, place as usize);
     let first = say_named(out, at, b" at byte ", place);
@@ -191,9 +191,9 @@ fn say_place(
     before: &[u8],
     after: &[u8],
 ) -> usize
-    requires { at + spotMost ≤ length out.old }
-    ensures said { Said out.old at (placePart number place before.now after.now) result out.new }
-    ensures upper_bound { result ≤ at + spotMost }
+    requires { at + spot_most ≤ length out.old }
+    ensures said { Said out.old at (place_part number place before.now after.now) result out.new }
+    ensures upper_bound { result ≤ at + spot_most }
 {
     if !has_place(number) {
         return at;
@@ -207,9 +207,9 @@ fn say_place(
 
 // Adds where two texts part, if the refusal is that they differ in length.
 fn say_parting(out: &mut [u8], at: usize, number: u32, before: &[u8], after: &[u8]) -> usize
-    requires { at + partingMost ≤ length out.old }
-    ensures said { Said out.old at (partingPart number before.now after.now) result out.new }
-    ensures upper_bound { result ≤ at + partingMost }
+    requires { at + parting_most ≤ length out.old }
+    ensures said { Said out.old at (parting_part number before.now after.now) result out.new }
+    ensures upper_bound { result ≤ at + parting_most }
 {
     if number != LENGTHS {
         return at;
@@ -228,9 +228,9 @@ pub fn refusal_line(
     before: &[u8],
     after: &[u8],
 ) -> usize
-    requires { lineMost ≤ length out.old }
-    ensures said { Said out.old 0 (refusalLine answer width before.now after.now) result out.new }
-    ensures upper_bound { result ≤ lineMost }
+    requires { line_most ≤ length out.old }
+    ensures said { Said out.old 0 (refusal_line answer width before.now after.now) result out.new }
+    ensures upper_bound { result ≤ line_most }
 {
     let number = answer.number;
     let first = say_named(out, 0, b"refused ", number as u64);

@@ -10,96 +10,96 @@ use Rattle.replay.specs.declared.Kind.TheVariants as kind
 use Rattle.replay.specs.declared.Verdict.{Verdict}
 use Rattle.replay.specs.declared.Verdict.TheVariants as verdict
 use Rattle.replay.specs.declared.Tally.{Tally}
-use Rattle.replay.specs.Replay.{headBytes, head_of, kind_of}
-use Rattle.replay.specs.Tally.{oneMore, first_of, countedOf}
+use Rattle.replay.specs.Replay.{head_bytes, head_of, kind_of}
+use Rattle.replay.specs.Tally.{one_more, first_of, counted_of}
 
 -- ---- a head
 
 module _ (h : List ℕ) where
-  pub head-none : length h ≡ 0 → head.End ≡ head_of h
+  pub head_none : length h ≡ 0 → head.End ≡ head_of h
   unfolding head_of
-  head-none p = rw (eq-eqb (length h) 0 p)
+  head_none p = rw (eq-eqb (length h) 0 p)
 
-  pub head-short : (length h ≡ 0 → ⊥) → length h < headBytes → head.Cut ≡ head_of h
+  pub head_short : (length h ≡ 0 → ⊥) → length h < head_bytes → head.Cut ≡ head_of h
   unfolding head_of
-  head-short p q = rw (ne_eqb (length h) 0 p, lt-ltb (length h) headBytes q)
+  head_short p q = rw (ne_eqb (length h) 0 p, lt-ltb (length h) head_bytes q)
 
-  pub head-whole : {a b : ℕ} → headBytes ≤ length h → a ≡ get_or h 2 0 * 256 + get_or h 3 0 → b ≡ get_or h 4 0 * 256 + get_or h 5 0
+  pub head_whole : {a b : ℕ} → head_bytes ≤ length h → a ≡ get_or h 2 0 * 256 + get_or h 3 0 → b ≡ get_or h 4 0 * 256 + get_or h 5 0
       → head.Record (get_or h 0 0) (get_or h 1 0) a b ≡ head_of h
   unfolding head_of
-  head-whole l p q = rw (ne_eqb (length h) 0 (λ z. omega arith), le-ltb (length h) headBytes l, p, q)
+  head_whole l p q = rw (ne_eqb (length h) 0 (λ z. omega arith), le-ltb (length h) head_bytes l, p, q)
 
-pub ruleset heading = (head-none, head-short, head-whole)
+pub ruleset heading = (head_none, head_short, head_whole)
 
 -- ---- a kind
 
 module _ {b : ℕ} where
-  pub kind-measure : b ≡ 0x4D → kind.Measure ≡ kind_of b
+  pub kind_measure : b ≡ 0x4D → kind.Measure ≡ kind_of b
   unfolding kind_of
-  kind-measure p = rw p
+  kind_measure p = rw p
 
-  pub kind-words : b ≡ 0x57 → kind.Words ≡ kind_of b
+  pub kind_words : b ≡ 0x57 → kind.Words ≡ kind_of b
   unfolding kind_of
-  kind-words p = rw p
+  kind_words p = rw p
 
-  pub kind-apart : b ≡ 0x41 → kind.Apart ≡ kind_of b
+  pub kind_apart : b ≡ 0x41 → kind.Apart ≡ kind_of b
   unfolding kind_of
-  kind-apart p = rw p
+  kind_apart p = rw p
 
-  pub kind-broken : b ≡ 0x42 → kind.Broken ≡ kind_of b
+  pub kind_broken : b ≡ 0x42 → kind.Broken ≡ kind_of b
   unfolding kind_of
-  kind-broken p = rw p
+  kind_broken p = rw p
 
-  pub kind-first : b ≡ 0x46 → kind.FirstFit ≡ kind_of b
+  pub kind_first : b ≡ 0x46 → kind.FirstFit ≡ kind_of b
   unfolding kind_of
-  kind-first p = rw p
+  kind_first p = rw p
 
-  pub kind-least : b ≡ 0x4C → kind.LeastCost ≡ kind_of b
+  pub kind_least : b ≡ 0x4C → kind.LeastCost ≡ kind_of b
   unfolding kind_of
-  kind-least p = rw p
+  kind_least p = rw p
 
-  pub kind-fill : b ≡ 0x49 → kind.Fill ≡ kind_of b
+  pub kind_fill : b ≡ 0x49 → kind.Fill ≡ kind_of b
   unfolding kind_of
-  kind-fill p = rw p
+  kind_fill p = rw p
 
-  pub kind-turn : b ≡ 0x21 → kind.Turn ≡ kind_of b
+  pub kind_turn : b ≡ 0x21 → kind.Turn ≡ kind_of b
   unfolding kind_of
-  kind-turn p = rw p
+  kind_turn p = rw p
 
-  pub kind-unknown : (b ≡ 0x4D → ⊥) → (b ≡ 0x57 → ⊥) → (b ≡ 0x41 → ⊥) → (b ≡ 0x42 → ⊥) → (b ≡ 0x46 → ⊥) → (b ≡ 0x4C → ⊥) → (b ≡ 0x49 → ⊥) → (b ≡ 0x21 → ⊥) → kind.Unknown ≡ kind_of b
+  pub kind_unknown : (b ≡ 0x4D → ⊥) → (b ≡ 0x57 → ⊥) → (b ≡ 0x41 → ⊥) → (b ≡ 0x42 → ⊥) → (b ≡ 0x46 → ⊥) → (b ≡ 0x4C → ⊥) → (b ≡ 0x49 → ⊥) → (b ≡ 0x21 → ⊥) → kind.Unknown ≡ kind_of b
   unfolding kind_of
-  kind-unknown m w a k f l i t = rw (ne_eqb b 0x4D m, ne_eqb b 0x57 w, ne_eqb b 0x41 a, ne_eqb b 0x42 k, ne_eqb b 0x46 f, ne_eqb b 0x4C l, ne_eqb b 0x49 i, ne_eqb b 0x21 t)
+  kind_unknown m w a k f l i t = rw (ne_eqb b 0x4D m, ne_eqb b 0x57 w, ne_eqb b 0x41 a, ne_eqb b 0x42 k, ne_eqb b 0x46 f, ne_eqb b 0x4C l, ne_eqb b 0x49 i, ne_eqb b 0x21 t)
 
-pub ruleset kinds = (kind-measure, kind-words, kind-apart, kind-broken, kind-first, kind-least, kind-fill, kind-turn, kind-unknown)
+pub ruleset kinds = (kind_measure, kind_words, kind_apart, kind_broken, kind_first, kind_least, kind_fill, kind_turn, kind_unknown)
 
 -- ---- a tally
 
-pub first-none : (first number : ℕ) → first ≡ 0 → number ≡ first_of first number
-first-none first number p = rw (eq-eqb first 0 p)
+pub first_none : (first number : ℕ) → first ≡ 0 → number ≡ first_of first number
+first_none first number p = rw (eq-eqb first 0 p)
 
 pub first_some : (first number : ℕ) → (first ≡ 0 → ⊥) → first ≡ first_of first number
 first_some first number p = rw (ne_eqb first 0 p)
 
-module _ {a b : ℕ} (t : Tally) {v : Verdict} (n : ℕ) (p : a ≡ oneMore t.replayed) where
-  pub count-agreed : v ≡ verdict.Agreed → b ≡ oneMore t.agreed → record { replayed = a; agreed = b; tied = t.tied; first = t.first } ≡ countedOf t v n
-  unfolding countedOf
-  count-agreed e q = rw (e, p, q)
+module _ {a b : ℕ} (t : Tally) {v : Verdict} (n : ℕ) (p : a ≡ one_more t.replayed) where
+  pub count_agreed : v ≡ verdict.Agreed → b ≡ one_more t.agreed → record { replayed = a; agreed = b; tied = t.tied; first = t.first } ≡ counted_of t v n
+  unfolding counted_of
+  count_agreed e q = rw (e, p, q)
 
-  pub count-tied : v ≡ verdict.Tied → b ≡ oneMore t.tied → record { replayed = a; agreed = t.agreed; tied = b; first = t.first } ≡ countedOf t v n
-  unfolding countedOf
-  count-tied e q = rw (e, p, q)
+  pub count_tied : v ≡ verdict.Tied → b ≡ one_more t.tied → record { replayed = a; agreed = t.agreed; tied = b; first = t.first } ≡ counted_of t v n
+  unfolding counted_of
+  count_tied e q = rw (e, p, q)
 
-  pub count-differs : v ≡ verdict.Differs → b ≡ first_of t.first n → record { replayed = a; agreed = t.agreed; tied = t.tied; first = b } ≡ countedOf t v n
-  unfolding countedOf
-  count-differs e q = rw (e, p, q)
+  pub count_differs : v ≡ verdict.Differs → b ≡ first_of t.first n → record { replayed = a; agreed = t.agreed; tied = t.tied; first = b } ≡ counted_of t v n
+  unfolding counted_of
+  count_differs e q = rw (e, p, q)
 
 module _ (t : Tally) {v : Verdict} (n : ℕ) where
-  pub count_turn : v ≡ verdict.Turn → t ≡ countedOf t v n
-  unfolding countedOf
+  pub count_turn : v ≡ verdict.Turn → t ≡ counted_of t v n
+  unfolding counted_of
   count_turn e = rw e
 
-  pub count-unknown : v ≡ verdict.Unknown → t ≡ countedOf t v n
-  unfolding countedOf
-  count-unknown e = rw e
+  pub count_unknown : v ≡ verdict.Unknown → t ≡ counted_of t v n
+  unfolding counted_of
+  count_unknown e = rw e
 
-pub ruleset tallying = (first-none, first_some, count-agreed, count-tied, count-differs, count_turn, count-unknown)
+pub ruleset tallying = (first_none, first_some, count_agreed, count_tied, count_differs, count_turn, count_unknown)

@@ -26,5 +26,5 @@ four n ss es ws cs s =
     false
 
 -- The number of two 16-bit numbers of a list, high first.
-abbrev pub longAt : List ℕ → ℕ → ℕ
-longAt l i = get_or l i 0 * 65536 + get_or l (i + 1) 0
+abbrev pub long_at : List ℕ → ℕ → ℕ
+long_at l i = get_or l i 0 * 65536 + get_or l (i + 1) 0

@@ -3,15 +3,15 @@
 // program itself only moves bytes. What is right stands in the crates that are called, and how the file
 // was made in `rust/vectors`, which also has the form of a record.
 ghost use Rattle.std.specs.Prelude.{◌≡◌, [], ◌∷◌, ◌+◌, ◌*◌, ◌≤◌, ◌<◌, min, eqb, length, get_or};
-ghost use Rattle.units.specs.Limits.{textMost};
+ghost use Rattle.units.specs.Limits.{text_most};
 ghost use Rattle.words.specs.Lists.{Room};
-ghost use Rattle.pieces.specs.Pieces.{breakApart, breakWords};
-ghost use Rattle.fill.specs.Fill.{fillOf, leaves};
+ghost use Rattle.pieces.specs.Pieces.{break_apart, break_words};
+ghost use Rattle.fill.specs.Fill.{fill_of, leaves};
 ghost use Rattle.wire.specs.Wire.{numbers16};
 ghost use Rattle.cheapest.specs.Table.{at};
-ghost use Rattle.replay.specs.Parts.{part, same, holds, four, longAt};
-ghost use Rattle.replay.specs.Replay.{head_of, kind_of, cut, measureAgrees, wordsAgree, piecesAgree, listsAgree, filledAgrees, fillAgrees, agreed, parts_of, penaltiesOf, firstOfParts, firstAgrees, weighed, leastOfParts, leastVerdict, leastAsked, numbersVerdict, askedVerdict, layoutVerdict, askedAfter, verdictOf};
-ghost use Rattle.replay.specs.Tally.{oneMore, first_of, countedOf};
+ghost use Rattle.replay.specs.Parts.{part, same, holds, four, long_at};
+ghost use Rattle.replay.specs.Replay.{head_of, kind_of, cut, measure_agrees, words_agree, pieces_agree, lists_agree, filled_agrees, fill_agrees, agreed, parts_of, penalties_of, first_of_parts, first_agrees, weighed, least_of_parts, least_verdict, least_asked, numbers_verdict, asked_verdict, layout_verdict, asked_after, verdict_of};
+ghost use Rattle.replay.specs.Tally.{one_more, first_of, counted_of};
 
 use fill::Filled;
 use fragments::Laid;
@@ -276,7 +276,7 @@ fn holds_four(
 
 // Whether a text has the stored columns.
 fn measure_agrees(text: &[u8], stored: &[u8]) -> bool
-    ensures { result ≡ measureAgrees text.now stored.now }
+    ensures { result ≡ measure_agrees text.now stored.now }
 {
     match measure::display_width(text) {
         Measured::Width(columns) => holds_one(columns.0, stored),
@@ -294,7 +294,7 @@ fn words_agree(
     whites: &mut [u32],
     widths: &mut [u32],
 ) -> bool
-    ensures { result ≡ wordsAgree text.now (min (min (length starts.old) (length ends.old)) (min (length whites.old) (length widths.old))) stored.now }
+    ensures { result ≡ words_agree text.now (min (min (length starts.old) (length ends.old)) (min (length whites.old) (length widths.old))) stored.now }
 {
     match words::find_words(text, starts, ends, whites, widths) {
         Listed::Words(n) => holds_four(n, starts, ends, whites, widths, stored),
@@ -314,7 +314,7 @@ fn apart_agrees(
     whites: &mut [u32],
     widths: &mut [u32],
 ) -> bool
-    ensures { result ≡ piecesAgree text.now width (min (min (length starts.old) (length ends.old)) (min (length whites.old) (length widths.old))) (breakApart text.now width) stored.now }
+    ensures { result ≡ pieces_agree text.now width (min (min (length starts.old) (length ends.old)) (min (length whites.old) (length widths.old))) (break_apart text.now width) stored.now }
 {
     match pieces::break_apart(text, width, starts, ends, whites, widths) {
         Broken::Pieces(n) => holds_four(n, starts, ends, whites, widths, stored),
@@ -335,7 +335,7 @@ fn broken_agrees(
     whites: &mut [u32],
     widths: &mut [u32],
 ) -> bool
-    ensures { result ≡ piecesAgree text.now width (min (min (length starts.old) (length ends.old)) (min (length whites.old) (length widths.old))) (breakWords text.now width) stored.now }
+    ensures { result ≡ pieces_agree text.now width (min (min (length starts.old) (length ends.old)) (min (length whites.old) (length widths.old))) (break_words text.now width) stored.now }
 {
     match pieces::break_words(text, width, starts, ends, whites, widths) {
         Broken::Pieces(n) => holds_four(n, starts, ends, whites, widths, stored),
@@ -357,7 +357,7 @@ fn lists_agree(
     whites: &mut [u32],
     widths: &mut [u32],
 ) -> bool
-    ensures { result ≡ listsAgree kind width text.now (min (min (length starts.old) (length ends.old)) (min (length whites.old) (length widths.old))) stored.now }
+    ensures { result ≡ lists_agree kind width text.now (min (min (length starts.old) (length ends.old)) (min (length whites.old) (length widths.old))) stored.now }
 {
     match kind {
         Kind::Words => words_agree(text, stored, starts, ends, whites, widths),
@@ -374,7 +374,7 @@ fn lists_agree(
 
 // The same in lists of its own.
 fn listed_agrees(kind: Kind, width: u32, text: &[u8], stored: &[u8]) -> bool
-    ensures { result ≡ listsAgree kind width text.now textMost stored.now }
+    ensures { result ≡ lists_agree kind width text.now text_most stored.now }
 {
     let mut a = [0; TEXT_MOST];
     let mut b = [0; TEXT_MOST];
@@ -386,7 +386,7 @@ fn listed_agrees(kind: Kind, width: u32, text: &[u8], stored: &[u8]) -> bool
 // A number of two 16-bit numbers, high first.
 fn long_of(numbers: &[u16], i: usize) -> u32
     requires { i + 1 < length numbers.now }
-    ensures { result ≡ longAt numbers.now i }
+    ensures { result ≡ long_at numbers.now i }
 {
     let high = long(numbers[i]);
     let low = long(numbers[i + 1]);
@@ -402,7 +402,7 @@ fn long(n: u16) -> u32
 // The penalties that stand before a layout.
 fn penalties_of(numbers: &[u16]) -> Penalties
     requires { 10 ≤ length numbers.now }
-    ensures { result ≡ penaltiesOf numbers.now }
+    ensures { result ≡ penalties_of numbers.now }
 {
     Penalties {
         line: long_of(numbers, 0),
@@ -439,7 +439,7 @@ fn holds_lines(lines: usize, ends: &[u16], stored: &[u8]) -> bool
 // Whether first fit lays out n fragments in the stored lines.
 fn first_of_parts(n: usize, numbers: &[u16], ends: &mut [u16], stored: &[u8]) -> bool
     requires { 1 + 3 * n ≤ length numbers.now }
-    ensures { result ≡ firstOfParts n numbers.now (length ends.old) stored.now }
+    ensures { result ≡ first_of_parts n numbers.now (length ends.old) stored.now }
 {
     let a = 1 + n;
     let b = 1 + 2 * n;
@@ -464,7 +464,7 @@ fn first_of_parts(n: usize, numbers: &[u16], ends: &mut [u16], stored: &[u8]) ->
 
 // Whether first fit lays out what is asked in the stored lines.
 fn first_agrees(numbers: &[u16], ends: &mut [u16], stored: &[u8]) -> bool
-    ensures { result ≡ firstAgrees numbers.now (length ends.old) stored.now }
+    ensures { result ≡ first_agrees numbers.now (length ends.old) stored.now }
 {
     match parts_of(numbers) {
         Parts::Good(n) => first_of_parts(n, numbers, ends, stored),
@@ -493,7 +493,7 @@ fn weigh(cost: u64, lines: usize, ends: &[u16], stored: &[u8]) -> Verdict
 // The cost at the start of stored bytes.
 fn stored_cost(stored: &[u8]) -> u64
     requires { 4 ≤ length stored.now }
-    ensures { result ≡ longAt (numbers16 stored.now) 0 }
+    ensures { result ≡ long_at (numbers16 stored.now) 0 }
 {
     let high = wire::get16(stored, 0) as u64;
     let low = wire::get16(stored, 1) as u64;
@@ -519,7 +519,7 @@ fn least_of_parts(
     stored: &[u8],
 ) -> Verdict
     requires { 1 + 3 * n ≤ length numbers.now }
-    ensures { result ≡ leastOfParts n numbers.now p (length ends.old) (length costs.old) (length starts.old) stored.now }
+    ensures { result ≡ least_of_parts n numbers.now p (length ends.old) (length costs.old) (length starts.old) stored.now }
 {
     let a = 1 + n;
     let b = 1 + 2 * n;
@@ -554,7 +554,7 @@ fn least_verdict(
     starts: &mut [u16],
     stored: &[u8],
 ) -> Verdict
-    ensures { result ≡ leastVerdict numbers.now p (length ends.old) (length costs.old) (length starts.old) stored.now }
+    ensures { result ≡ least_verdict numbers.now p (length ends.old) (length costs.old) (length starts.old) stored.now }
 {
     match parts_of(numbers) {
         Parts::Good(n) => least_of_parts(n, numbers, p, ends, costs, starts, stored),
@@ -570,7 +570,7 @@ fn least_asked(
     starts: &mut [u16],
     stored: &[u8],
 ) -> Verdict
-    ensures { result ≡ leastAsked numbers.now (length ends.old) (length costs.old) (length starts.old) stored.now }
+    ensures { result ≡ least_asked numbers.now (length ends.old) (length costs.old) (length starts.old) stored.now }
 {
     if numbers.len() < PENALTY_NUMBERS {
         return Verdict::Differs;
@@ -599,7 +599,7 @@ fn numbers_verdict(
     starts: &mut [u16],
     stored: &[u8],
 ) -> Verdict
-    ensures { result ≡ numbersVerdict kind numbers.now (length ends.old) (length costs.old) (length starts.old) stored.now }
+    ensures { result ≡ numbers_verdict kind numbers.now (length ends.old) (length costs.old) (length starts.old) stored.now }
 {
     match kind {
         Kind::FirstFit => verdict_of(first_agrees(numbers, ends, stored)),
@@ -624,7 +624,7 @@ fn asked_verdict(
     starts: &mut [u16],
     stored: &[u8],
 ) -> Verdict
-    ensures { result ≡ askedVerdict kind asked.now (length numbers.old) (length ends.old) (length costs.old) (length starts.old) stored.now }
+    ensures { result ≡ asked_verdict kind asked.now (length numbers.old) (length ends.old) (length costs.old) (length starts.old) stored.now }
 {
     let count = wire::count16(asked);
     if numbers.len() < count {
@@ -636,7 +636,7 @@ fn asked_verdict(
 
 // The same with lists of its own.
 fn layout_verdict(kind: Kind, asked: &[u8], stored: &[u8]) -> Verdict
-    ensures { result ≡ layoutVerdict kind asked.now stored.now }
+    ensures { result ≡ layout_verdict kind asked.now stored.now }
 {
     let mut numbers = [0; NUMBERS_MOST];
     let mut ends = [0; FRAGMENTS_MOST];
@@ -656,8 +656,8 @@ fn layout_verdict(kind: Kind, asked: &[u8], stored: &[u8]) -> Verdict
 // Whether a text is filled as it is stored, with the stored count of changed bytes. The text is filled
 // where it stands.
 fn fill_agrees(text: &mut [u8], width: u32, stored: &[u8]) -> bool
-    ensures value { result ≡ fillAgrees width text.old stored.now }
-    ensures text_after { text.new ≡ leaves (fillOf width text.old) width text.old }
+    ensures value { result ≡ fill_agrees width text.old stored.now }
+    ensures text_after { text.new ≡ leaves (fill_of width text.old) width text.old }
 {
     let filled = fill::fill_inplace(text, width);
     match filled {
@@ -670,7 +670,7 @@ fn fill_agrees(text: &mut [u8], width: u32, stored: &[u8]) -> bool
 
 // Whether a count and a text are stored.
 fn is_filled(n: usize, text: &[u8], stored: &[u8]) -> bool
-    ensures { result ≡ filledAgrees n text.now stored.now }
+    ensures { result ≡ filled_agrees n text.now stored.now }
 {
     if stored.len() < COUNT_BYTES {
         return false;
@@ -681,8 +681,8 @@ fn is_filled(n: usize, text: &[u8], stored: &[u8]) -> bool
 // How the answer to what a record asks compares with the stored one. What is asked stays as it was, but a
 // text that is filled is filled where it stands.
 pub fn judge(kind: u8, width: u8, asked: &mut [u8], stored: &[u8]) -> Verdict
-    ensures value { result ≡ verdictOf (kind_of kind) width asked.old stored.now }
-    ensures asked_after { asked.new ≡ askedAfter (kind_of kind) width asked.old }
+    ensures value { result ≡ verdict_of (kind_of kind) width asked.old stored.now }
+    ensures asked_after { asked.new ≡ asked_after (kind_of kind) width asked.old }
 {
     let kind = kind_of(kind);
     let columns = width as u32;
@@ -701,14 +701,14 @@ pub fn judge(kind: u8, width: u8, asked: &mut [u8], stored: &[u8]) -> Verdict
 
 // One more, as far as 64 bits go.
 pub fn one_more(n: u64) -> u64
-    ensures { result ≡ oneMore n }
+    ensures { result ≡ one_more n }
 {
     if n < u64::MAX { n + 1 } else { n }
 }
 
 // A tally with one more record, of a number and a verdict.
 pub fn counted(t: Tally, verdict: Verdict, number: u64) -> Tally
-    ensures { result ≡ countedOf t verdict number }
+    ensures { result ≡ counted_of t verdict number }
 {
     match verdict {
         Verdict::Agreed => Tally {

@@ -10,18 +10,18 @@ pub record Said (out : List ℕ) (at : ℕ) (line : List ℕ) (r : ℕ) (out' : 
   pub left : out' ≡ sets out at line
 
 -- The most digits that a number of 64 bits has.
-abbrev pub numberMost : ℕ
-numberMost = 20
+abbrev pub number_most : ℕ
+number_most = 20
 
 -- The ASCII code of a digit.
-abbrev pub digitOf : ℕ → ℕ
-digitOf d = 48 + d
+abbrev pub digit_of : ℕ → ℕ
+digit_of d = 48 + d
 
 -- The decimal digits of a number, the highest first and no zero before it: at most k of them,
-unfoldable pub decimalFor : ℕ → ℕ → List ℕ
-decimalFor zero n = []
-decimalFor (suc k) n = pick (ltb n 10) (digitOf n ∷ []) (decimalFor k (n / 10) ++ (digitOf (n % 10) ∷ []))
+unfoldable pub decimal_for : ℕ → ℕ → List ℕ
+decimal_for zero n = []
+decimal_for (suc k) n = pick (ltb n 10) (digit_of n ∷ []) (decimal_for k (n / 10) ++ (digit_of (n % 10) ∷ []))
 
 -- and as many as any number of 64 bits has.
-unfoldable pub decimalOf : ℕ → List ℕ
-decimalOf n = decimalFor numberMost n
+unfoldable pub decimal_of : ℕ → List ℕ
+decimal_of n = decimal_for number_most n

@@ -2,7 +2,7 @@
 // the buffer holds, and answers how many it holds then. What a line says is decided by who calls; nothing
 // is written to a file here.
 ghost use Rattle.std.specs.Prelude.{◌∷◌, [], ◌++◌, ◌+◌, ◌≤◌, length, replicate};
-ghost use Rattle.saying.specs.Saying.{Said, numberMost, decimalOf};
+ghost use Rattle.saying.specs.Saying.{Said, number_most, decimal_of};
 
 // The most digits that a number has.
 pub const NUMBER_MOST: usize = 20;
@@ -44,9 +44,9 @@ pub fn say_times(out: &mut [u8], at: usize, b: u8, n: usize) -> usize
 
 // Adds the decimal digits of a number.
 pub fn say_number(out: &mut [u8], at: usize, n: u64) -> usize
-    requires { at + numberMost ≤ length out.old }
-    ensures said { Said out.old at (decimalOf n) result out.new }
-    ensures upper_bound { result ≤ at + numberMost }
+    requires { at + number_most ≤ length out.old }
+    ensures said { Said out.old at (decimal_of n) result out.new }
+    ensures upper_bound { result ≤ at + number_most }
 {
     let mut digits = [0u8; NUMBER_MOST];
     let k = io::decimal(n, &mut digits);
@@ -55,9 +55,9 @@ pub fn say_number(out: &mut [u8], at: usize, n: u64) -> usize
 
 // Adds a name and, after it, the decimal digits of a number.
 pub fn say_named(out: &mut [u8], at: usize, name: &[u8], n: u64) -> usize
-    requires { at + length name.now + numberMost ≤ length out.old }
-    ensures said { Said out.old at (name.now ++ decimalOf n) result out.new }
-    ensures upper_bound { result ≤ at + length name.now + numberMost }
+    requires { at + length name.now + number_most ≤ length out.old }
+    ensures said { Said out.old at (name.now ++ decimal_of n) result out.new }
+    ensures upper_bound { result ≤ at + length name.now + number_most }
 {
     let named = say(out, at, name);
     say_number(out, named, n)

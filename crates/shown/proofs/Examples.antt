@@ -2,16 +2,16 @@
 use mathlib.Core.Path.{◌≡◌, refl}
 use mathlib.Core.List.{[], ◌∷◌}
 use Rattle.logic.specs.Count.{count}
-use Rattle.logic.specs.Items.{items, itemsFor}
-use Rattle.chars.specs.Utf8.{utf8-1, utf8-2, utf8-3, utf8-4, point-2, point-3, point-4, head4, head_of, decode_from, bytes}
-use Rattle.measure.specs.Escapes.{columns, next, inText, taken, widthFrom, width_of}
-use Rattle.words.specs.Words.{contentEnd, white, afterWord, word_at, words}
-use Rattle.pieces.specs.Pieces.{starts, fitting, pieceEnd}
-use Rattle.lines.specs.Lines.{lineEnd, bodyEnd, nextLine}
-use Rattle.saying.specs.Saying.{decimalFor, decimalOf}
-use Rattle.cuts.specs.Cuts.{cut_in, cutFrom, cut_of}
-use Rattle.shown.specs.Shown.{shownOne, shownFrom, shown}
-use Rattle.shown.specs.Slip.{keptPart, droppedPart, row_by, row_of, topMark, mark_of, marksFrom, digitsOf, rulerOf, countedOf, firstWide, summaryOf, shownLines, rows_of, tally_of, shownOf}
+use Rattle.logic.specs.Items.{items, items_for}
+use Rattle.chars.specs.Utf8.{utf8_1, utf8_2, utf8_3, utf8_4, point_2, point_3, point_4, head4, head_of, decode_from, bytes}
+use Rattle.measure.specs.Escapes.{columns, next, in_text, taken, width_from, width_of}
+use Rattle.words.specs.Words.{content_end, white, after_word, word_at, words}
+use Rattle.pieces.specs.Pieces.{starts, fitting, piece_end}
+use Rattle.lines.specs.Lines.{line_end, body_end, next_line}
+use Rattle.saying.specs.Saying.{decimal_for, decimal_of}
+use Rattle.cuts.specs.Cuts.{cut_in, cut_from, cut_of}
+use Rattle.shown.specs.Shown.{shown_one, shown_from, shown}
+use Rattle.shown.specs.Slip.{kept_part, dropped_part, row_by, row_of, top_mark, mark_of, marks_from, digits_of, ruler_of, counted_of, first_wide, summary_of, shown_lines, rows_of, tally_of, shown_of}
 
 -- Three lines at 5 columns, of which the second is too wide:
 --
@@ -21,24 +21,24 @@ use Rattle.shown.specs.Slip.{keptPart, droppedPart, row_by, row_of, topMark, mar
 --     abc d| dropped: e f
 --     x    |
 --     lines: 3, too wide: 1, first too wide: line 2
-pub three-lines :
-    shownOf 5 (0x61 ∷ 0x62 ∷ 0x20 ∷ 0x63 ∷ 0x64 ∷ 0x0A ∷ 0x61 ∷ 0x62 ∷ 0x63 ∷ 0x20 ∷ 0x64 ∷ 0x65 ∷ 0x20 ∷ 0x66 ∷ 0x0A ∷ 0x78 ∷ 0x0A ∷ [])
+pub three_lines :
+    shown_of 5 (0x61 ∷ 0x62 ∷ 0x20 ∷ 0x63 ∷ 0x64 ∷ 0x0A ∷ 0x61 ∷ 0x62 ∷ 0x63 ∷ 0x20 ∷ 0x64 ∷ 0x65 ∷ 0x20 ∷ 0x66 ∷ 0x0A ∷ 0x78 ∷ 0x0A ∷ [])
     ≡ 0x20 ∷ 0x20 ∷ 0x20 ∷ 0x20 ∷ 0x76 ∷ 0x0A ∷ 0x31 ∷ 0x32 ∷ 0x33 ∷ 0x34 ∷ 0x35 ∷ 0x7C ∷ 0x0A ∷ 0x61 ∷ 0x62 ∷ 0x20 ∷ 0x63 ∷ 0x64 ∷ 0x7C ∷ 0x0A ∷ 0x61 ∷ 0x62 ∷ 0x63 ∷ 0x20 ∷ 0x64 ∷ 0x7C ∷ 0x20 ∷ 0x64 ∷ 0x72 ∷ 0x6F ∷ 0x70 ∷ 0x70 ∷ 0x65 ∷ 0x64 ∷ 0x3A ∷ 0x20 ∷ 0x65 ∷ 0x20 ∷ 0x66 ∷ 0x0A ∷ 0x78 ∷ 0x20 ∷ 0x20 ∷ 0x20 ∷ 0x20 ∷ 0x7C ∷ 0x0A ∷ 0x6C ∷ 0x69 ∷ 0x6E ∷ 0x65 ∷ 0x73 ∷ 0x3A ∷ 0x20 ∷ 0x33 ∷ 0x2C ∷ 0x20 ∷ 0x74 ∷ 0x6F ∷ 0x6F ∷ 0x20 ∷ 0x77 ∷ 0x69 ∷ 0x64 ∷ 0x65 ∷ 0x3A ∷ 0x20 ∷ 0x31 ∷ 0x2C ∷ 0x20 ∷ 0x66 ∷ 0x69 ∷ 0x72 ∷ 0x73 ∷ 0x74 ∷ 0x20 ∷ 0x74 ∷ 0x6F ∷ 0x6F ∷ 0x20 ∷ 0x77 ∷ 0x69 ∷ 0x64 ∷ 0x65 ∷ 0x3A ∷ 0x20 ∷ 0x6C ∷ 0x69 ∷ 0x6E ∷ 0x65 ∷ 0x20 ∷ 0x32 ∷ 0x0A ∷ []
-unfolding count items itemsFor utf8-1 utf8-2 utf8-3 utf8-4 point-2 point-3 point-4 head4 head_of decode_from bytes columns next inText taken widthFrom width_of contentEnd white afterWord word_at words starts fitting pieceEnd lineEnd bodyEnd nextLine decimalFor decimalOf cut_in cutFrom cut_of shownOne shownFrom keptPart droppedPart row_by topMark mark_of marksFrom digitsOf rulerOf countedOf firstWide summaryOf shownLines rows_of tally_of shownOf
-three-lines = refl
+unfolding count items items_for utf8_1 utf8_2 utf8_3 utf8_4 point_2 point_3 point_4 head4 head_of decode_from bytes columns next in_text taken width_from width_of content_end white after_word word_at words starts fitting piece_end line_end body_end next_line decimal_for decimal_of cut_in cut_from cut_of shown_one shown_from kept_part dropped_part row_by top_mark mark_of marks_from digits_of ruler_of counted_of first_wide summary_of shown_lines rows_of tally_of shown_of
+three_lines = refl
 
 -- The ruler of 12 columns, and of none; no text has no line.
 pub rulers :
-    (rulerOf 12 ≡ 0x20 ∷ 0x20 ∷ 0x20 ∷ 0x20 ∷ 0x20 ∷ 0x20 ∷ 0x20 ∷ 0x20 ∷ 0x20 ∷ 0x31 ∷ 0x20 ∷ 0x76 ∷ 0x0A ∷ 0x31 ∷ 0x32 ∷ 0x33 ∷ 0x34 ∷ 0x35 ∷ 0x36 ∷ 0x37 ∷ 0x38 ∷ 0x39 ∷ 0x30 ∷ 0x31 ∷ 0x32 ∷ 0x7C ∷ 0x0A ∷ [])
-    × (shownOf 0 [] ≡ 0x0A ∷ 0x7C ∷ 0x0A ∷ 0x6C ∷ 0x69 ∷ 0x6E ∷ 0x65 ∷ 0x73 ∷ 0x3A ∷ 0x20 ∷ 0x30 ∷ 0x2C ∷ 0x20 ∷ 0x74 ∷ 0x6F ∷ 0x6F ∷ 0x20 ∷ 0x77 ∷ 0x69 ∷ 0x64 ∷ 0x65 ∷ 0x3A ∷ 0x20 ∷ 0x30 ∷ 0x0A ∷ [])
-unfolding count items itemsFor utf8-1 utf8-2 utf8-3 utf8-4 point-2 point-3 point-4 head4 head_of decode_from bytes columns next inText taken widthFrom width_of contentEnd white afterWord word_at words starts fitting pieceEnd lineEnd bodyEnd nextLine decimalFor decimalOf cut_in cutFrom cut_of shownOne shownFrom keptPart droppedPart row_by topMark mark_of marksFrom digitsOf rulerOf countedOf firstWide summaryOf shownLines rows_of tally_of shownOf
+    (ruler_of 12 ≡ 0x20 ∷ 0x20 ∷ 0x20 ∷ 0x20 ∷ 0x20 ∷ 0x20 ∷ 0x20 ∷ 0x20 ∷ 0x20 ∷ 0x31 ∷ 0x20 ∷ 0x76 ∷ 0x0A ∷ 0x31 ∷ 0x32 ∷ 0x33 ∷ 0x34 ∷ 0x35 ∷ 0x36 ∷ 0x37 ∷ 0x38 ∷ 0x39 ∷ 0x30 ∷ 0x31 ∷ 0x32 ∷ 0x7C ∷ 0x0A ∷ [])
+    × (shown_of 0 [] ≡ 0x0A ∷ 0x7C ∷ 0x0A ∷ 0x6C ∷ 0x69 ∷ 0x6E ∷ 0x65 ∷ 0x73 ∷ 0x3A ∷ 0x20 ∷ 0x30 ∷ 0x2C ∷ 0x20 ∷ 0x74 ∷ 0x6F ∷ 0x6F ∷ 0x20 ∷ 0x77 ∷ 0x69 ∷ 0x64 ∷ 0x65 ∷ 0x3A ∷ 0x20 ∷ 0x30 ∷ 0x0A ∷ [])
+unfolding count items items_for utf8_1 utf8_2 utf8_3 utf8_4 point_2 point_3 point_4 head4 head_of decode_from bytes columns next in_text taken width_from width_of content_end white after_word word_at words starts fitting piece_end line_end body_end next_line decimal_for decimal_of cut_in cut_from cut_of shown_one shown_from kept_part dropped_part row_by top_mark mark_of marks_from digits_of ruler_of counted_of first_wide summary_of shown_lines rows_of tally_of shown_of
 rulers = (refl, refl)
 
 -- Bytes shown: a tab, an escape in its place, 7F, and a control character of C1; and a character that is none.
 pub controls :
     shown (0x61 ∷ 0x09 ∷ 0x1B ∷ 0x5B ∷ 0x31 ∷ 0x6D ∷ 0x7F ∷ 0xC2 ∷ 0x85 ∷ 0xC3 ∷ 0xA9 ∷ [])
     ≡ 0x61 ∷ 0xE2 ∷ 0x90 ∷ 0x89 ∷ 0xE2 ∷ 0x90 ∷ 0x9B ∷ 0x5B ∷ 0x31 ∷ 0x6D ∷ 0xE2 ∷ 0x90 ∷ 0xA1 ∷ 0xE2 ∷ 0x90 ∷ 0xA6 ∷ 0xC3 ∷ 0xA9 ∷ []
-unfolding count items itemsFor utf8-1 utf8-2 utf8-3 utf8-4 point-2 point-3 point-4 head4 head_of decode_from bytes columns next inText taken widthFrom width_of contentEnd white afterWord word_at words starts fitting pieceEnd lineEnd bodyEnd nextLine decimalFor decimalOf cut_in cutFrom cut_of shownOne shownFrom keptPart droppedPart row_by topMark mark_of marksFrom digitsOf rulerOf countedOf firstWide summaryOf shownLines rows_of tally_of shownOf
+unfolding count items items_for utf8_1 utf8_2 utf8_3 utf8_4 point_2 point_3 point_4 head4 head_of decode_from bytes columns next in_text taken width_from width_of content_end white after_word word_at words starts fitting piece_end line_end body_end next_line decimal_for decimal_of cut_in cut_from cut_of shown_one shown_from kept_part dropped_part row_by top_mark mark_of marks_from digits_of ruler_of counted_of first_wide summary_of shown_lines rows_of tally_of shown_of
 controls = refl
 
 -- Rows: one word that is too wide; a wide character that does not fit into the last column; spaces at the end, which do not count; an escape, which takes no column; an escape that has no end, which ends with its word, so that the line is 4 wide although it measures 2 as a whole; a word of no columns after spaces that
@@ -51,5 +51,5 @@ pub rows :
     × (row_of 3 (0x1B ∷ 0x5B ∷ 0x31 ∷ 0x20 ∷ 0x61 ∷ 0x62 ∷ 0x63 ∷ []) ≡ 0xE2 ∷ 0x90 ∷ 0x9B ∷ 0x5B ∷ 0x31 ∷ 0x20 ∷ 0x61 ∷ 0x62 ∷ 0x7C ∷ 0x20 ∷ 0x64 ∷ 0x72 ∷ 0x6F ∷ 0x70 ∷ 0x70 ∷ 0x65 ∷ 0x64 ∷ 0x3A ∷ 0x20 ∷ 0x63 ∷ 0x0A ∷ [])
     × (row_of 3 (0x61 ∷ 0x62 ∷ 0x63 ∷ 0x20 ∷ 0x20 ∷ 0x1B ∷ 0x63 ∷ []) ≡ 0x61 ∷ 0x62 ∷ 0x63 ∷ 0x7C ∷ 0x20 ∷ 0x64 ∷ 0x72 ∷ 0x6F ∷ 0x70 ∷ 0x70 ∷ 0x65 ∷ 0x64 ∷ 0x3A ∷ 0x20 ∷ 0xE2 ∷ 0x90 ∷ 0x9B ∷ 0x63 ∷ 0x0A ∷ [])
     × (row_of 4 (0x20 ∷ 0x20 ∷ 0x61 ∷ 0x62 ∷ 0x20 ∷ 0x20 ∷ 0x63 ∷ 0x64 ∷ []) ≡ 0x20 ∷ 0x20 ∷ 0x61 ∷ 0x62 ∷ 0x7C ∷ 0x20 ∷ 0x64 ∷ 0x72 ∷ 0x6F ∷ 0x70 ∷ 0x70 ∷ 0x65 ∷ 0x64 ∷ 0x3A ∷ 0x20 ∷ 0x63 ∷ 0x64 ∷ 0x0A ∷ [])
-unfolding count items itemsFor utf8-1 utf8-2 utf8-3 utf8-4 point-2 point-3 point-4 head4 head_of decode_from bytes columns next inText taken widthFrom width_of contentEnd white afterWord word_at words starts fitting pieceEnd lineEnd bodyEnd nextLine decimalFor decimalOf cut_in cutFrom cut_of shownOne shownFrom keptPart droppedPart row_by topMark mark_of marksFrom digitsOf rulerOf countedOf firstWide summaryOf shownLines rows_of tally_of shownOf
+unfolding count items items_for utf8_1 utf8_2 utf8_3 utf8_4 point_2 point_3 point_4 head4 head_of decode_from bytes columns next in_text taken width_from width_of content_end white after_word word_at words starts fitting piece_end line_end body_end next_line decimal_for decimal_of cut_in cut_from cut_of shown_one shown_from kept_part dropped_part row_by top_mark mark_of marks_from digits_of ruler_of counted_of first_wide summary_of shown_lines rows_of tally_of shown_of
 rows = (refl, refl, refl, refl, refl, refl, refl)

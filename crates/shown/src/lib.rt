@@ -5,12 +5,12 @@
 // An escape takes no column on the printer. Shown in its place it takes some, so the rest of that row
 // stands further to the right than on the paper.
 ghost use Rattle.std.specs.Prelude.{◌≡◌, ◌+◌, ◌-◌, ◌*◌, ◌%◌, ◌≤◌, length, get_or, drop};
-ghost use Rattle.units.specs.Limits.{textMost, widthMost};
+ghost use Rattle.units.specs.Limits.{text_most, width_most};
 ghost use Rattle.chars.specs.Utf8.{Whole};
-ghost use Rattle.lines.specs.Lines.{nextLine, line_at, body_of};
-ghost use Rattle.saying.specs.Saying.{Said, digitOf};
-ghost use Rattle.shown.specs.Shown.{isC1, picture, shownOne, sizeOne, shown};
-ghost use Rattle.shown.specs.Slip.{rowMost, Keeps, Sits, keptPart, droppedPart, row_by, row_of, wide_of, topMark, mark_of, marksOf, digitsOf, rulerOf, Small, countedOf, first_of, firstWide, summaryOf};
+ghost use Rattle.lines.specs.Lines.{next_line, line_at, body_of};
+ghost use Rattle.saying.specs.Saying.{Said, digit_of};
+ghost use Rattle.shown.specs.Shown.{is_c1, picture, shown_one, size_one, shown};
+ghost use Rattle.shown.specs.Slip.{row_most, Keeps, Sits, kept_part, dropped_part, row_by, row_of, wide_of, top_mark, mark_of, marks_of, digits_of, ruler_of, Small, counted_of, first_of, first_wide, summary_of};
 
 use cuts::{Cut, Kept};
 use lines::NEWLINE;
@@ -84,7 +84,7 @@ pub const NO_LINES: Tally = Tally {
 
 // Whether two bytes are a control character of C1.
 fn is_c1(b: u8, next: u8) -> bool
-    ensures { result ≡ isC1 b next }
+    ensures { result ≡ is_c1 b next }
 {
     (b == C1_FIRST) & ((C1_LEAST <= next) & (next <= C1_MOST))
 }
@@ -102,7 +102,7 @@ fn say_picture(out: &mut [u8], at: usize, last: u8) -> usize
 // the byte itself.
 fn say_one(out: &mut [u8], at: usize, b: u8, next: u8) -> usize
     requires { at + 3 ≤ length out.old }
-    ensures { Said out.old at (shownOne b next) result out.new }
+    ensures { Said out.old at (shown_one b next) result out.new }
 {
     if b < SPACE {
         return say_picture(out, at, PICTURE + b);
@@ -118,7 +118,7 @@ fn say_one(out: &mut [u8], at: usize, b: u8, next: u8) -> usize
 
 // How many bytes are shown so.
 fn size_one(b: u8, next: u8) -> usize
-    ensures { result ≡ sizeOne b next }
+    ensures { result ≡ size_one b next }
 {
     if is_c1(b, next) { 2 } else { 1 }
 }
@@ -149,7 +149,7 @@ pub fn say_shown(out: &mut [u8], at: usize, bytes: &[u8]) -> usize
 // Adds what of a line the printer drops, if it drops anything, with ten bytes before it that say so.
 fn say_dropped(out: &mut [u8], at: usize, line: &[u8], wide: bool, dropped: usize) -> usize
     requires { (dropped ≤ length line.now) × (at + 10 + 3 * (length line.now - dropped) ≤ length out.old) }
-    ensures { Said out.old at (droppedPart line.now wide dropped) result out.new }
+    ensures { Said out.old at (dropped_part line.now wide dropped) result out.new }
 {
     if !wide {
         return at;
@@ -160,8 +160,8 @@ fn say_dropped(out: &mut [u8], at: usize, line: &[u8], wide: bool, dropped: usiz
 
 // Adds the kept part of a line, spaces up to the last column, and the edge of the paper.
 fn say_kept(out: &mut [u8], line: &[u8], kept: Kept, width: usize) -> usize
-    requires { Keeps width line.now kept × (rowMost ≤ length out.old) }
-    ensures { Said out.old 0 (keptPart width line.now kept) result out.new }
+    requires { Keeps width line.now kept × (row_most ≤ length out.old) }
+    ensures { Said out.old 0 (kept_part width line.now kept) result out.new }
 {
     let end = kept.end.0;
     let said = say_shown(out, 0, &line[..end]);
@@ -171,7 +171,7 @@ fn say_kept(out: &mut [u8], line: &[u8], kept: Kept, width: usize) -> usize
 
 // The row of a line that is cut.
 fn say_row(out: &mut [u8], line: &[u8], cut: Cut, width: usize) -> usize
-    requires { Sits width line.now cut × (rowMost ≤ length out.old) }
+    requires { Sits width line.now cut × (row_most ≤ length out.old) }
     ensures { Said out.old 0 (row_by width line.now cut) result out.new }
 {
     let kept = cut.kept;
@@ -182,7 +182,7 @@ fn say_row(out: &mut [u8], line: &[u8], cut: Cut, width: usize) -> usize
 
 // The row of a line.
 fn say_line(out: &mut [u8], line: &[u8], width: usize) -> Drawn
-    requires { (rowMost ≤ length out.old) × (width ≤ widthMost) × (length line.now ≤ textMost) × Whole line.now }
+    requires { (row_most ≤ length out.old) × (width ≤ width_most) × (length line.now ≤ text_most) × Whole line.now }
     ensures said { Said out.old 0 (row_of width line.now) result.len out.new }
     ensures wide_value { result.wide ≡ wide_of width line.now }
 {
@@ -197,9 +197,9 @@ fn say_line(out: &mut [u8], line: &[u8], width: usize) -> Drawn
 // The row of the line that starts at a place of a text: its kept part, spaces up to the last column, the
 // edge of the paper, and what is dropped.
 pub fn row(out: &mut [u8], text: &[u8], from: usize, width: usize) -> Printed
-    requires { (rowMost ≤ length out.old) × (width ≤ widthMost) × (length text.now ≤ textMost) × (from ≤ length text.now) × Whole (drop from text.now) }
+    requires { (row_most ≤ length out.old) × (width ≤ width_most) × (length text.now ≤ text_most) × (from ≤ length text.now) × Whole (drop from text.now) }
     ensures said { Said out.old 0 (row_of width (body_of text.now (line_at text.now from))) result.len out.new }
-    ensures next_value { (result.next ≡ nextLine text.now from) × (result.wide ≡ wide_of width (body_of text.now (line_at text.now from))) }
+    ensures next_value { (result.next ≡ next_line text.now from) × (result.wide ≡ wide_of width (body_of text.now (line_at text.now from))) }
 {
     let end = lines::line_end(text, from);
     let body = lines::body_end(text, from, end);
@@ -214,14 +214,14 @@ pub fn row(out: &mut [u8], text: &[u8], from: usize, width: usize) -> Printed
 
 // The last digit of a number.
 fn digit(n: usize) -> u8
-    ensures { result ≡ digitOf (n % 10) }
+    ensures { result ≡ digit_of (n % 10) }
 {
     (ZERO + n % 10) as u8
 }
 
 // What the ruler's first row has over a column: `v` over the last one, the tens at each tenth.
 fn top_mark(width: usize, column: usize) -> u8
-    ensures { result ≡ topMark width column }
+    ensures { result ≡ top_mark width column }
 {
     if column == width {
         return LAST;
@@ -245,7 +245,7 @@ fn mark(top: bool, width: usize, column: usize) -> u8
 // Adds the marks of all columns.
 fn say_marks(out: &mut [u8], at: usize, top: bool, width: usize) -> usize
     requires { at + width ≤ length out.old }
-    ensures { Said out.old at (marksOf top width) result out.new }
+    ensures { Said out.old at (marks_of top width) result out.new }
 {
     let mut column = 0;
     let mut to = at;
@@ -259,7 +259,7 @@ fn say_marks(out: &mut [u8], at: usize, top: bool, width: usize) -> usize
 // Adds the ruler's second row: the last digit of each column, and the edge of the paper.
 fn say_digits(out: &mut [u8], at: usize, width: usize) -> usize
     requires { at + width + 2 ≤ length out.old }
-    ensures { Said out.old at (digitsOf width) result out.new }
+    ensures { Said out.old at (digits_of width) result out.new }
 {
     let digits = say_marks(out, at, false, width);
     let edge = saying::say_byte(out, digits, EDGE);
@@ -269,8 +269,8 @@ fn say_digits(out: &mut [u8], at: usize, width: usize) -> usize
 // The ruler: a row with the tens and a mark over the last column, and a row with the last digit of each
 // column and the edge of the paper.
 pub fn ruler(out: &mut [u8], width: usize) -> usize
-    requires { (rowMost ≤ length out.old) × (width ≤ widthMost) }
-    ensures { Said out.old 0 (rulerOf width) result out.new }
+    requires { (row_most ≤ length out.old) × (width ≤ width_most) }
+    ensures { Said out.old 0 (ruler_of width) result out.new }
 {
     let top = say_marks(out, 0, true, width);
     let first = saying::say_byte(out, top, NEWLINE);
@@ -287,7 +287,7 @@ fn first_of(tally: Tally, lines: u64) -> u64
 // The tally with one more line.
 pub fn counted(tally: Tally, wide: bool) -> Tally
     requires { Small tally }
-    ensures { result ≡ countedOf tally wide }
+    ensures { result ≡ counted_of tally wide }
 {
     let lines = tally.lines + 1;
     if !wide {
@@ -309,7 +309,7 @@ pub fn counted(tally: Tally, wide: bool) -> Tally
 // Adds which line is the first that is too wide, if one is: 23 bytes that say so, and a number.
 fn say_first(out: &mut [u8], at: usize, tally: Tally) -> usize
     requires { at + 43 ≤ length out.old }
-    ensures said { Said out.old at (firstWide tally) result out.new }
+    ensures said { Said out.old at (first_wide tally) result out.new }
     ensures upper_bound { result ≤ at + 43 }
 {
     if tally.wide == 0 {
@@ -320,8 +320,8 @@ fn say_first(out: &mut [u8], at: usize, tally: Tally) -> usize
 
 // The line that counts the rows.
 pub fn summary(out: &mut [u8], tally: Tally) -> usize
-    requires { rowMost ≤ length out.old }
-    ensures { Said out.old 0 (summaryOf tally) result out.new }
+    requires { row_most ≤ length out.old }
+    ensures { Said out.old 0 (summary_of tally) result out.new }
 {
     let lines = saying::say_named(out, 0, b"lines: ", tally.lines);
     let wide = saying::say_named(out, lines, b", too wide: ", tally.wide);

@@ -5,7 +5,7 @@
 // A program has no exit status. Where the first argument is --status-on-3, the digit of what the run ends
 // with is written to descriptor 3, which tools/slip reads; without it no such descriptor is touched.
 ghost use Rattle.std.specs.Prelude.{◌≡◌, ◌≤◌, length};
-ghost use Rattle.slips.specs.Rooms.{blockRoom};
+ghost use Rattle.slips.specs.Rooms.{block_room};
 
 use libc::{STDERR_FILENO, STDIN_FILENO, STDOUT_FILENO};
 use slips::{BLOCK_ROOM, Ends};
@@ -21,7 +21,7 @@ fn wants_status() -> bool {
 
 // Does what the arguments from a place on ask for.
 fn run_from(block: &mut [u8], first: usize) -> u8
-    requires { (length block.old ≡ blockRoom) × (first ≤ 2) }
+    requires { (length block.old ≡ block_room) × (first ≤ 2) }
 {
     let n = slips::gather(block, first);
     slips::run(

@@ -1,20 +1,20 @@
 -- Whether a text is shown as a slip of some width. Document 01 has no such entry: it is refused as the fill refuses, "text entries go 1, 2, 3".
 use Rattle.std.specs.Prelude.{ℕ, ◌≤◌, List, ltb, length}
 use Rattle.units.specs.declared.Answer.{Answer}
-use Rattle.units.specs.Limits.{textMost, widthMost}
+use Rattle.units.specs.Limits.{text_most, width_most}
 use Rattle.units.specs.Answers.{success, refusal}
 use Rattle.logic.specs.Choice.{pick}
-use Rattle.chars.specs.Utf8.{firstFault, Whole}
+use Rattle.chars.specs.Utf8.{first_fault, Whole}
 
-unfoldable pub showAnswer : List ℕ → ℕ → Answer
-showAnswer s width =
-    pick (ltb textMost (length s)) (refusal 1 (length s))
-    (pick (ltb (firstFault s) (length s)) (refusal 2 (firstFault s))
-    (pick (ltb widthMost width) (refusal 3 0)
+unfoldable pub show_answer : List ℕ → ℕ → Answer
+show_answer s width =
+    pick (ltb text_most (length s)) (refusal 1 (length s))
+    (pick (ltb (first_fault s) (length s)) (refusal 2 (first_fault s))
+    (pick (ltb width_most width) (refusal 3 0)
     (success 0)))
 
 -- A text and a width that are not refused.
 pub record Shows (s : List ℕ) (width : ℕ) : Type 0 where
-  pub short : length s ≤ textMost
+  pub short : length s ≤ text_most
   pub whole : Whole s
-  pub narrow : width ≤ widthMost
+  pub narrow : width ≤ width_most

@@ -3,8 +3,8 @@
 // `told`, `refusals`, `shown` and `usage`. It stands apart from `slip`, so that the cases of `slip_cases`
 // run the same code.
 ghost use Rattle.std.specs.Prelude.{◌≡◌, ◌+◌, ◌≤◌, ◌<◌, min, length};
-ghost use Rattle.slips.specs.Show.{Shows, showAnswer};
-ghost use Rattle.slips.specs.Rooms.{textRoom, lineRoom, argumentRoom, blockRoom};
+ghost use Rattle.slips.specs.Show.{Shows, show_answer};
+ghost use Rattle.slips.specs.Rooms.{text_room, line_room, argument_room, block_room};
 
 use asked::{ARGUMENT_MOST, File, Plan, WIDTH, Wrong};
 use chars::Checked;
@@ -176,7 +176,7 @@ fn refuse(
     before: &[u8],
     after: &[u8],
 ) -> u8
-    requires { length line.old ≡ lineRoom }
+    requires { length line.old ≡ line_room }
 {
     let n = refusals::refusal_line(line, answer, width, before, after);
     send(output, &line[..n], REFUSED)
@@ -186,7 +186,7 @@ fn refuse(
 
 // Writes the columns of a text.
 fn put_measure(line: &mut [u8], text: &[u8], output: i32, error: i32) -> u8
-    requires { length line.old ≡ lineRoom }
+    requires { length line.old ≡ line_room }
 {
     let measured = measure::display_width(text);
     if let Measured::Width(columns) = measured {
@@ -198,7 +198,7 @@ fn put_measure(line: &mut [u8], text: &[u8], output: i32, error: i32) -> u8
 
 // Fills a text and writes it.
 fn put_fill(line: &mut [u8], text: &mut [u8], width: u32, output: i32, error: i32) -> u8
-    requires { length line.old ≡ lineRoom }
+    requires { length line.old ≡ line_room }
 {
     let answer = fill::answer_of(fill::fill_inplace(text, width));
     if answer.number != 0 {
@@ -209,7 +209,7 @@ fn put_fill(line: &mut [u8], text: &mut [u8], width: u32, output: i32, error: i3
 
 // Writes whether a text is another one with its lines well broken.
 fn put_check(line: &mut [u8], before: &[u8], after: &[u8], width: u32, output: i32) -> u8
-    requires { length line.old ≡ lineRoom }
+    requires { length line.old ≡ line_room }
 {
     let answer = judge::answer_of(judge::check(before, after, width));
     if answer.number != 0 {
@@ -222,7 +222,7 @@ fn put_check(line: &mut [u8], before: &[u8], after: &[u8], width: u32, output: i
 // Writes the line of a word, of whose numbers so many bytes stand in the line: the numbers, its bytes as
 // they are shown, and a newline.
 fn put_word(line: &mut [u8], text: &[u8], len: usize, word: Word, output: i32) -> u8
-    requires { (length line.old ≡ lineRoom) × (length text.now ≤ textRoom) }
+    requires { (length line.old ≡ line_room) × (length text.now ≤ text_room) }
 {
     let stop = least(word.end.0, text.len());
     let start = least(word.start.0, stop);
@@ -235,7 +235,7 @@ fn put_word(line: &mut [u8], text: &[u8], len: usize, word: Word, output: i32) -
 
 // Writes the lines of the words of a text, and answers how many there are; or that a write failed.
 fn put_each(line: &mut [u8], text: &[u8], output: i32) -> Listed
-    requires { (length line.old ≡ lineRoom) × (length text.now ≤ textRoom) }
+    requires { (length line.old ≡ line_room) × (length text.now ≤ text_room) }
 {
     let mut from = Offset(0);
     // a text has no more words than bytes
@@ -256,7 +256,7 @@ fn put_each(line: &mut [u8], text: &[u8], output: i32) -> Listed
 
 // Writes the words of a text that is not refused, and how many there are.
 fn put_words(line: &mut [u8], text: &[u8], output: i32) -> u8
-    requires { (length line.old ≡ lineRoom) × (length text.now ≤ textRoom) }
+    requires { (length line.old ≡ line_room) × (length text.now ≤ text_room) }
 {
     let Listed::All(count) = put_each(line, text, output) else {
         return FAILED;
@@ -267,7 +267,7 @@ fn put_words(line: &mut [u8], text: &[u8], output: i32) -> u8
 
 // Writes the words of a text.
 fn put_listed(line: &mut [u8], text: &[u8], output: i32, error: i32) -> u8
-    requires { (length line.old ≡ lineRoom) × (length text.now ≤ textRoom) }
+    requires { (length line.old ≡ line_room) × (length text.now ≤ text_room) }
 {
     let opening = reader::open_at(text);
     let opened = opening.answer;
@@ -282,7 +282,7 @@ fn put_listed(line: &mut [u8], text: &[u8], output: i32, error: i32) -> u8
 
 // Whether a text can be shown at a width: 1, 2 and 3 as for the fill, or else 0.
 pub fn show_answer(text: &[u8], width: u32) -> Answer
-    ensures { result ≡ showAnswer text.now width }
+    ensures { result ≡ show_answer text.now width }
 {
     if TEXT_MOST < text.len() {
         return units::refused(1, text.len());
@@ -300,7 +300,7 @@ pub fn show_answer(text: &[u8], width: u32) -> Answer
 
 // Writes the rows of a text, and answers the tally of its lines; or that a write failed.
 fn put_rows(line: &mut [u8], text: &[u8], width: usize, output: i32) -> Rows
-    requires { (length line.old ≡ lineRoom) × Shows text.now width }
+    requires { (length line.old ≡ line_room) × Shows text.now width }
 {
     let mut from = 0;
     let mut tally = shown::NO_LINES;
@@ -318,7 +318,7 @@ fn put_rows(line: &mut [u8], text: &[u8], width: usize, output: i32) -> Rows
 
 // Writes the slip as a printer prints it.
 fn put_slip(line: &mut [u8], text: &[u8], width: usize, output: i32) -> u8
-    requires { (length line.old ≡ lineRoom) × Shows text.now width }
+    requires { (length line.old ≡ line_room) × Shows text.now width }
 {
     let n = shown::ruler(line, width);
     if send(output, &line[..n], DONE) != DONE {
@@ -333,7 +333,7 @@ fn put_slip(line: &mut [u8], text: &[u8], width: usize, output: i32) -> u8
 
 // Writes a text as a slip of some width.
 fn put_shown(line: &mut [u8], text: &[u8], width: u32, output: i32, error: i32) -> u8
-    requires { length line.old ≡ lineRoom }
+    requires { length line.old ≡ line_room }
 {
     let answer = show_answer(text, width);
     if answer.number != 0 {
@@ -346,7 +346,7 @@ fn put_shown(line: &mut [u8], text: &[u8], width: u32, output: i32, error: i32) 
 
 // Writes how `slip` is used, and answers what the run ends with.
 fn put_usage(line: &mut [u8], output: i32, end: u8) -> u8
-    requires { length line.old ≡ lineRoom }
+    requires { length line.old ≡ line_room }
 {
     let mut k = 0;
     while k < USAGE_LINES {
@@ -361,8 +361,8 @@ fn put_usage(line: &mut [u8], output: i32, end: u8) -> u8
 
 // Writes what is wrong with the arguments, and how `slip` is used.
 fn put_misuse(line: &mut [u8], error: i32, wrong: Wrong, word: &[u8]) -> u8
-    requires line_len { length line.old ≡ lineRoom }
-    requires word_len_bound { length word.now < argumentRoom }
+    requires line_len { length line.old ≡ line_room }
+    requires word_len_bound { length word.now < argument_room }
 {
     let n = usage::misuse_line(line, wrong, word);
     if send(error, &line[..n], DONE) != DONE {
@@ -373,7 +373,7 @@ fn put_misuse(line: &mut [u8], error: i32, wrong: Wrong, word: &[u8]) -> u8
 
 // The same for a part of the block; what is no argument is not named.
 fn misused(block: &[u8], line: &mut [u8], error: i32, wrong: Wrong, start: usize, end: usize) -> u8
-    requires { length line.old ≡ lineRoom }
+    requires { length line.old ≡ line_room }
 {
     if block.len() < end {
         return put_misuse(line, error, wrong, b"");
@@ -392,7 +392,7 @@ fn misused(block: &[u8], line: &mut [u8], error: i32, wrong: Wrong, start: usize
 // The bytes of an argument that are kept, by what `os::arg` answers and whether it had room: one that is
 // too long keeps so many that it stays too long.
 fn kept(n: usize, error: i32) -> usize
-    ensures { result ≤ argumentRoom }
+    ensures { result ≤ argument_room }
 {
     if error == libc::ENAMETOOLONG {
         return ARGUMENT_ROOM;
@@ -402,8 +402,8 @@ fn kept(n: usize, error: i32) -> usize
 
 // Adds an argument of the program to the block, and a 0. Answers how many bytes the block holds then.
 fn add_argument(block: &mut [u8], at: usize, k: usize) -> usize
-    requires { at + argumentRoom + 1 ≤ length block.old }
-    ensures { result ≤ at + argumentRoom + 1 }
+    requires { at + argument_room + 1 ≤ length block.old }
+    ensures { result ≤ at + argument_room + 1 }
 {
     let room = at + ARGUMENT_ROOM;
     let n = os::arg(k, &mut block[at..room]);
@@ -415,7 +415,7 @@ fn add_argument(block: &mut [u8], at: usize, k: usize) -> usize
 // Gathers the arguments of the program from a place on: so many that one too many is seen. Answers how
 // many bytes the block holds then.
 pub fn gather(block: &mut [u8], first: usize) -> usize
-    requires block_len { length block.old ≡ blockRoom }
+    requires block_len { length block.old ≡ block_room }
     requires first_bound { first ≤ 2 }
     ensures { result ≤ length block.old }
 {
@@ -441,7 +441,7 @@ pub struct Ends {
 
 // Reads a text and measures it.
 fn on_measure(block: &[u8], file: File, text: &mut [u8], line: &mut [u8], ends: Ends) -> u8
-    requires { (length line.old ≡ lineRoom) × (length text.old ≡ textRoom) }
+    requires { (length line.old ≡ line_room) × (length text.old ≡ text_room) }
 {
     let came = load(block, file, ends.input, text);
     if !came.whole {
@@ -453,7 +453,7 @@ fn on_measure(block: &[u8], file: File, text: &mut [u8], line: &mut [u8], ends: 
 
 // Reads a text and lists its words.
 fn on_words(block: &[u8], file: File, text: &mut [u8], line: &mut [u8], ends: Ends) -> u8
-    requires { (length line.old ≡ lineRoom) × (length text.old ≡ textRoom) }
+    requires { (length line.old ≡ line_room) × (length text.old ≡ text_room) }
 {
     let came = load(block, file, ends.input, text);
     if !came.whole {
@@ -465,7 +465,7 @@ fn on_words(block: &[u8], file: File, text: &mut [u8], line: &mut [u8], ends: En
 
 // Reads a text and fills it.
 fn on_fill(block: &[u8], width: u32, file: File, text: &mut [u8], line: &mut [u8], ends: Ends) -> u8
-    requires { (length line.old ≡ lineRoom) × (length text.old ≡ textRoom) }
+    requires { (length line.old ≡ line_room) × (length text.old ≡ text_room) }
 {
     let came = load(block, file, ends.input, text);
     if !came.whole {
@@ -477,7 +477,7 @@ fn on_fill(block: &[u8], width: u32, file: File, text: &mut [u8], line: &mut [u8
 
 // Reads a text and shows it.
 fn on_show(block: &[u8], width: u32, file: File, text: &mut [u8], line: &mut [u8], ends: Ends) -> u8
-    requires { (length line.old ≡ lineRoom) × (length text.old ≡ textRoom) }
+    requires { (length line.old ≡ line_room) × (length text.old ≡ text_room) }
 {
     let came = load(block, file, ends.input, text);
     if !came.whole {
@@ -498,7 +498,7 @@ fn on_check(
     line: &mut [u8],
     ends: Ends,
 ) -> u8
-    requires { (length line.old ≡ lineRoom) × (length text.old ≡ textRoom) × (length other.old ≡ textRoom) }
+    requires { (length line.old ≡ line_room) × (length text.old ≡ text_room) × (length other.old ≡ text_room) }
 {
     let first = load(block, before, ends.input, text);
     if !first.whole {
@@ -515,7 +515,7 @@ fn on_check(
 
 // Does what the arguments ask for.
 fn act(block: &[u8], text: &mut [u8], other: &mut [u8], line: &mut [u8], ends: Ends) -> u8
-    requires { (length line.old ≡ lineRoom) × (length text.old ≡ textRoom) × (length other.old ≡ textRoom) }
+    requires { (length line.old ≡ line_room) × (length text.old ≡ text_room) × (length other.old ≡ text_room) }
 {
     let plan = asked::plan_of(block);
     match plan {

@@ -1,6 +1,6 @@
 -- The lines of answers.
 use Rattle.std.specs.Prelude.{ℕ, List, [], ◌++◌, length}
-use Rattle.saying.specs.Saying.{decimalOf}
+use Rattle.saying.specs.Saying.{decimal_of}
 use Rattle.saying.specs.Ascii.{ascii}
 use Rattle.words.specs.declared.Word.{Word}
 use Rattle.words.specs.declared.Step.{Step}
@@ -9,42 +9,42 @@ use Rattle.told.specs.declared.Told.{Told}
 use Rattle.told.specs.declared.Told.TheVariants.{Line, NoMore}
 
 -- A name and a number.
-abbrev pub namedLine : List ℕ → ℕ → List ℕ
-namedLine name n = (name ++ decimalOf n) ++ ascii "\n"
+abbrev pub named_line : List ℕ → ℕ → List ℕ
+named_line name n = (name ++ decimal_of n) ++ ascii "\n"
 
 -- The columns of a text.
-abbrev pub measuredLine : ℕ → List ℕ
-measuredLine columns = namedLine (ascii "columns: ") columns
+abbrev pub measured_line : ℕ → List ℕ
+measured_line columns = named_line (ascii "columns: ") columns
 
 -- The check accepts.
-abbrev pub acceptedLine : List ℕ
-acceptedLine = ascii "accepted\n"
+abbrev pub accepted_line : List ℕ
+accepted_line = ascii "accepted\n"
 
 -- How many words there are.
-abbrev pub wordsLine : ℕ → List ℕ
-wordsLine count = namedLine (ascii "words: ") count
+abbrev pub words_line : ℕ → List ℕ
+words_line count = named_line (ascii "words: ") count
 
 -- "start, content end, whitespace length and width" of a word, a space after each.
-abbrev pub wordNumbers : Word → List ℕ
-wordNumbers word =
-    decimalOf word.start.0
-    ++ ((ascii " " ++ decimalOf word.end.0)
-    ++ ((ascii " " ++ decimalOf word.white.0)
-    ++ ((ascii " " ++ decimalOf word.width.0)
+abbrev pub word_numbers : Word → List ℕ
+word_numbers word =
+    decimal_of word.start.0
+    ++ ((ascii " " ++ decimal_of word.end.0)
+    ++ ((ascii " " ++ decimal_of word.white.0)
+    ++ ((ascii " " ++ decimal_of word.width.0)
     ++ ascii " ")))
 
 -- What is said at a step over the words of a text,
-abbrev pub numbersOf : Step → List ℕ
-numbersOf (Found word next) = wordNumbers word
-numbersOf End = []
-numbersOf (Fault place) = []
+abbrev pub numbers_of : Step → List ℕ
+numbers_of (Found word next) = word_numbers word
+numbers_of End = []
+numbers_of (Fault place) = []
 
 -- and what is answered.
-abbrev pub toldOf : Step → Told
-toldOf (Found word next) = Line (length (wordNumbers word)) word next
-toldOf End = NoMore
-toldOf (Fault place) = NoMore
+abbrev pub told_of : Step → Told
+told_of (Found word next) = Line (length (word_numbers word)) word next
+told_of End = NoMore
+told_of (Fault place) = NoMore
 
 -- No line is longer.
-abbrev pub lineMost : ℕ
-lineMost = 84
+abbrev pub line_most : ℕ
+line_most = 84

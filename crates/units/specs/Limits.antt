@@ -3,21 +3,21 @@
 use Rattle.std.specs.Prelude.{ℕ, ◌^◌}
 
 -- "Text at most 60,000 bytes."
-abbrev pub textMost : ℕ
-textMost = 60000
+abbrev pub text_most : ℕ
+text_most = 60000
 
 -- "Line width 0 to 255."
-abbrev pub widthMost : ℕ
-widthMost = 255
+abbrev pub width_most : ℕ
+width_most = 255
 
 -- "At most 4,096 fragments"
-abbrev pub fragmentsMost : ℕ
-fragmentsMost = 4096
+abbrev pub fragments_most : ℕ
+fragments_most = 4096
 
 -- "Penalties are five numbers, each 0 to 1,000,000"
-abbrev pub penaltyMost : ℕ
-penaltyMost = 1000000
+abbrev pub penalty_most : ℕ
+penalty_most = 1000000
 
 -- "the least cost exceeds 2^53"
-abbrev pub costMost : ℕ
-costMost = 2 ^ 53
+abbrev pub cost_most : ℕ
+cost_most = 2 ^ 53

@@ -5,25 +5,25 @@ use Rattle.asked.specs.declared.Wrong.{Wrong}
 use Rattle.asked.specs.declared.Wrong.TheVariants.{NoCommand, NoSuchCommand, NotWidth, TooFew, TooMany, BothInput, TooLong}
 
 -- What is wrong; the word that is wrong comes after it.
-abbrev pub wrongWords : Wrong → List ℕ
-wrongWords NoCommand = ascii "slip: no command is given"
-wrongWords NoSuchCommand = ascii "slip: no such command: "
-wrongWords NotWidth = ascii "slip: not a width: "
-wrongWords TooFew = ascii "slip: check takes two texts, BEFORE and AFTER"
-wrongWords TooMany = ascii "slip: too many arguments, from here on: "
-wrongWords BothInput = ascii "slip: standard input is not both texts: "
-wrongWords TooLong = ascii "slip: an argument is longer than 4095 bytes"
+abbrev pub wrong_words : Wrong → List ℕ
+wrong_words NoCommand = ascii "slip: no command is given"
+wrong_words NoSuchCommand = ascii "slip: no such command: "
+wrong_words NotWidth = ascii "slip: not a width: "
+wrong_words TooFew = ascii "slip: check takes two texts, BEFORE and AFTER"
+wrong_words TooMany = ascii "slip: too many arguments, from here on: "
+wrong_words BothInput = ascii "slip: standard input is not both texts: "
+wrong_words TooLong = ascii "slip: an argument is longer than 4095 bytes"
 
 -- No such words are more bytes.
-abbrev pub wrongMost : ℕ
-wrongMost = 63
+abbrev pub wrong_most : ℕ
+wrong_most = 63
 
-unfoldable pub misuseLine : Wrong → List ℕ → List ℕ
-misuseLine x word = wrongWords x ++ (word ++ (0x0A ∷ []))
+unfoldable pub misuse_line : Wrong → List ℕ → List ℕ
+misuse_line x word = wrong_words x ++ (word ++ (0x0A ∷ []))
 
 -- How `slip` is used.
-abbrev pub usageLines : List (List ℕ)
-usageLines =
+abbrev pub usage_lines : List (List ℕ)
+usage_lines =
     ascii "slip measure [FILE]              the columns of a text\n"
     ∷ ascii "slip words [FILE]                its words: start, end, spaces, columns, bytes\n"
     ∷ ascii "slip fill [WIDTH] [FILE]         the text, filled\n"
@@ -37,9 +37,9 @@ usageLines =
     ∷ ascii "2 where the arguments are wrong, or a file is not read or not written.\n"
     ∷ []
 
-unfoldable pub usageLine : ℕ → List ℕ
-usageLine k = get_or usageLines k []
+unfoldable pub usage_line : ℕ → List ℕ
+usage_line k = get_or usage_lines k []
 
 -- No line is longer.
-abbrev pub usageMost : ℕ
-usageMost = 96
+abbrev pub usage_most : ℕ
+usage_most = 96

@@ -2,7 +2,7 @@
 // it is used. What is wrong is decided in `asked`; nothing here writes to a file.
 ghost use Rattle.std.specs.Prelude.{◌+◌, ◌≤◌, length};
 ghost use Rattle.saying.specs.Saying.{Said};
-ghost use Rattle.usage.specs.Usage.{wrongMost, wrongWords, misuseLine, usageMost, usageLine};
+ghost use Rattle.usage.specs.Usage.{wrong_most, wrong_words, misuse_line, usage_most, usage_line};
 
 use asked::Wrong;
 use saying::say;
@@ -20,9 +20,9 @@ const NEWLINE: u8 = 0x0A;
 
 // Adds what is wrong, up to the word that is.
 fn say_wrong(out: &mut [u8], at: usize, wrong: Wrong) -> usize
-    requires { at + wrongMost ≤ length out.old }
-    ensures said { Said out.old at (wrongWords wrong) result out.new }
-    ensures upper_bound { result ≤ at + wrongMost }
+    requires { at + wrong_most ≤ length out.old }
+    ensures said { Said out.old at (wrong_words wrong) result out.new }
+    ensures upper_bound { result ≤ at + wrong_most }
 {
     match wrong {
         Wrong::NoCommand => say(out, at, b"slip: no command is given"),
@@ -37,8 +37,8 @@ fn say_wrong(out: &mut [u8], at: usize, wrong: Wrong) -> usize
 
 // The line that says what is wrong with the arguments, and names the word.
 pub fn misuse_line(out: &mut [u8], wrong: Wrong, word: &[u8]) -> usize
-    requires { wrongMost + length word.now + 1 ≤ length out.old }
-    ensures { Said out.old 0 (misuseLine wrong word.now) result out.new }
+    requires { wrong_most + length word.now + 1 ≤ length out.old }
+    ensures { Said out.old 0 (misuse_line wrong word.now) result out.new }
 {
     let named = say_wrong(out, 0, wrong);
     let end = say(out, named, word);
@@ -47,8 +47,8 @@ pub fn misuse_line(out: &mut [u8], wrong: Wrong, word: &[u8]) -> usize
 
 // A line on how `slip` is used, by its number from 0; nothing where there is none.
 pub fn usage_line(out: &mut [u8], k: usize) -> usize
-    requires { usageMost ≤ length out.old }
-    ensures { Said out.old 0 (usageLine k) result out.new }
+    requires { usage_most ≤ length out.old }
+    ensures { Said out.old 0 (usage_line k) result out.new }
 {
     match k {
         0 => say(

@@ -2,12 +2,12 @@
 // four, high first. A list's places are its bytes divided by four; what is left over is not touched.
 ghost use Rattle.std.specs.Prelude.{◌≡◌, ◌*◌, ◌/◌, ◌≤◌, min, map, length};
 ghost use Rattle.std.proofs.lemmas.List.Edits.{sets};
-ghost use Rattle.units.specs.Limits.{textMost};
+ghost use Rattle.units.specs.Limits.{text_most};
 ghost use Rattle.logic.specs.Flat.{flat};
 ghost use Rattle.wire.specs.Wire.{be32};
 ghost use Rattle.chars.specs.Utf8.{Whole};
 ghost use Rattle.words.specs.Words.{words};
-ghost use Rattle.words.specs.Lists.{start_of, end_of, whiteOf, widthOfWord, Small, PutAt, Room, listed_of, Finds};
+ghost use Rattle.words.specs.Lists.{start_of, end_of, white_of, width_of_word, Small, PutAt, Room, listed_of, Finds};
 
 use chars::Checked;
 use units::{Offset, TEXT_MOST};
@@ -29,8 +29,8 @@ pub fn put_word(
     requires put_at { PutAt 4 place starts.old ends.old whites.old widths.old }
     ensures starts_after { starts.new ≡ sets starts.old place (be32 (start_of word)) }
     ensures ends_after { ends.new ≡ sets ends.old place (be32 (end_of word)) }
-    ensures whites_after { whites.new ≡ sets whites.old place (be32 (whiteOf word)) }
-    ensures widths_after { widths.new ≡ sets widths.old place (be32 (widthOfWord word)) }
+    ensures whites_after { whites.new ≡ sets whites.old place (be32 (white_of word)) }
+    ensures widths_after { widths.new ≡ sets widths.old place (be32 (width_of_word word)) }
 {
     wire::put32(starts, place, word.start.0 as u32);
     wire::put32(ends, place, word.end.0 as u32);
@@ -46,13 +46,13 @@ fn write_words(
     whites: &mut [u8],
     widths: &mut [u8],
 ) -> usize
-    requires text_len_bound { (length text.now ≤ textMost) × Whole text.now }
+    requires text_len_bound { (length text.now ≤ text_most) × Whole text.now }
     requires room { Room (4 * length (words text.now)) starts.old ends.old whites.old widths.old }
     ensures value { result ≡ length (words text.now) }
     ensures starts_after { starts.new ≡ sets starts.old 0 (flat be32 (map start_of (words text.now))) }
     ensures ends_after { ends.new ≡ sets ends.old 0 (flat be32 (map end_of (words text.now))) }
-    ensures whites_after { whites.new ≡ sets whites.old 0 (flat be32 (map whiteOf (words text.now))) }
-    ensures widths_after { widths.new ≡ sets widths.old 0 (flat be32 (map widthOfWord (words text.now))) }
+    ensures whites_after { whites.new ≡ sets whites.old 0 (flat be32 (map white_of (words text.now))) }
+    ensures widths_after { widths.new ≡ sets widths.old 0 (flat be32 (map width_of_word (words text.now))) }
 {
     let mut at = Offset(0);
     let mut place = 0;
@@ -79,8 +79,8 @@ pub fn find_words(
     ensures value { result ≡ listed_of text.now (min (min (length starts.old / 4) (length ends.old / 4)) (min (length whites.old / 4) (length widths.old / 4))) }
     ensures starts_after { starts.new ≡ Finds result (flat be32 (map start_of (words text.now))) starts.old }
     ensures ends_after { ends.new ≡ Finds result (flat be32 (map end_of (words text.now))) ends.old }
-    ensures whites_after { whites.new ≡ Finds result (flat be32 (map whiteOf (words text.now))) whites.old }
-    ensures widths_after { widths.new ≡ Finds result (flat be32 (map widthOfWord (words text.now))) widths.old }
+    ensures whites_after { whites.new ≡ Finds result (flat be32 (map white_of (words text.now))) whites.old }
+    ensures widths_after { widths.new ≡ Finds result (flat be32 (map width_of_word (words text.now))) widths.old }
 {
     if TEXT_MOST < text.len() {
         return Listed::TooLong(Offset(text.len()));

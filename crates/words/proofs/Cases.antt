@@ -4,5 +4,5 @@ use Rattle.units.specs.declared.Answer.{Answer}
 use Rattle.words.specs.declared.Listed.{Listed}
 use Rattle.words.specs.Lists.{answer_of}
 
-pub answer-of : {r : Answer} {l l' : Listed} → l ≡ l' → r ≡ answer_of l' → r ≡ answer_of l
-answer-of p q = rw p q
+pub answer_of_lem : {r : Answer} {l l' : Listed} → l ≡ l' → r ≡ answer_of l' → r ≡ answer_of l
+answer_of_lem p q = rw p q

@@ -2,10 +2,10 @@
 use Rattle.std.specs.Prelude.{◌≡◌, ℕ, ◌+◌, ◌^◌, ◌≤◌, ◌<◌, List, ltb, length}
 use Rattle.std.proofs.lemmas.List.Edits.{sets}
 use Rattle.units.specs.declared.Answer.{Answer}
-use Rattle.units.specs.Limits.{textMost}
+use Rattle.units.specs.Limits.{text_most}
 use Rattle.units.specs.Answers.{success, refusal}
 use Rattle.logic.specs.Choice.{pick}
-use Rattle.chars.specs.Utf8.{firstFault}
+use Rattle.chars.specs.Utf8.{first_fault}
 use Rattle.words.specs.declared.Word.{Word}
 use Rattle.words.specs.declared.Listed.{Listed}
 use Rattle.words.specs.declared.Listed.TheVariants.{Words, TooLong, NotUtf8, NoRoom}
@@ -20,17 +20,17 @@ start_of w = w.start.0
 abbrev pub end_of : Word → ℕ
 end_of w = w.end.0
 
-abbrev pub whiteOf : Word → ℕ
-whiteOf w = w.white.0
+abbrev pub white_of : Word → ℕ
+white_of w = w.white.0
 
-abbrev pub widthOfWord : Word → ℕ
-widthOfWord w = w.width.0
+abbrev pub width_of_word : Word → ℕ
+width_of_word w = w.width.0
 
 -- "Where several hold, text entries go 1, 2, 3, 7"; "the word finder no 3"; "7 is tested on the answer lists .. by the shortest of each". `room` is the shortest list's length.
 unfoldable pub listed_of : List ℕ → ℕ → Listed
 listed_of s room =
-    pick (ltb textMost (length s)) (TooLong (record { 0 = length s }))
-    (pick (ltb (firstFault s) (length s)) (NotUtf8 (record { 0 = firstFault s }))
+    pick (ltb text_most (length s)) (TooLong (record { 0 = length s }))
+    (pick (ltb (first_fault s) (length s)) (NotUtf8 (record { 0 = first_fault s }))
     (pick (ltb room (length (words s))) (NoRoom (length (words s)))
     (Words (length (words s)))))
 
@@ -51,15 +51,15 @@ answer_of (NoRoom n) = refusal 7 n
 -- ---- what the parts of the finder answer and ask of each other
 
 -- Whether `room` places are enough for n words.
-abbrev pub fitOf : ℕ → ℕ → Fit
-fitOf n room = pick (ltb room n) (Needs n) Enough
+abbrev pub fit_of : ℕ → ℕ → Fit
+fit_of n room = pick (ltb room n) (Needs n) Enough
 
 -- A word's numbers have 32 bits.
 pub record Small (w : Word) : Type 0 where
   pub start : start_of w < 2 ^ 32
   pub end : end_of w < 2 ^ 32
-  pub white : whiteOf w < 2 ^ 32
-  pub width : widthOfWord w < 2 ^ 32
+  pub white : white_of w < 2 ^ 32
+  pub width : width_of_word w < 2 ^ 32
 
 -- A number of `size` elements goes to `place` of each of the four lists.
 pub record PutAt (size place : ℕ) (a b c d : List ℕ) : Type 0 where

@@ -5,12 +5,12 @@
 // Nothing here breaks a word or lays words out.
 ghost use Rattle.std.specs.Prelude.{◌≡◌, ◌+◌, ◌≤◌, ◌<◌, min, length, drop, set, map};
 ghost use Rattle.std.proofs.lemmas.List.Edits.{sets};
-ghost use Rattle.units.specs.Limits.{textMost};
+ghost use Rattle.units.specs.Limits.{text_most};
 ghost use Rattle.units.specs.Answers.{success, refusal};
 ghost use Rattle.logic.specs.Count.{count};
 ghost use Rattle.chars.specs.Utf8.{Whole};
-ghost use Rattle.words.specs.Words.{space, letter, afterWord, words, stepAt};
-ghost use Rattle.words.specs.Lists.{start_of, end_of, whiteOf, widthOfWord, Small, PutAt, Room, listed_of, Finds, answer_of, fitOf};
+ghost use Rattle.words.specs.Words.{space, letter, after_word, words, step_at};
+ghost use Rattle.words.specs.Lists.{start_of, end_of, white_of, width_of_word, Small, PutAt, Room, listed_of, Finds, answer_of, fit_of};
 
 use chars::Checked;
 use measure::Passed;
@@ -96,7 +96,7 @@ fn letter_end(text: &[u8], from: usize) -> usize
 
 // The word that starts at an offset.
 pub fn next_word(text: &[u8], at: Offset) -> Step
-    ensures { result ≡ stepAt text.now at.0 }
+    ensures { result ≡ step_at text.now at.0 }
 {
     if text.len() <= at.0 {
         return Step::End;
@@ -136,7 +136,7 @@ pub fn count_words(text: &[u8]) -> usize
 // Whether `room` places are enough for the words of a text. They are counted only where it could lack
 // some: a text has at most half as many words as bytes, and one more.
 pub fn room_for_words(text: &[u8], room: usize) -> Fit
-    ensures { result ≡ fitOf (length (words text.now)) room }
+    ensures { result ≡ fit_of (length (words text.now)) room }
 {
     if text.len() / 2 < room {
         return Fit::Enough;
@@ -161,8 +161,8 @@ pub fn put_word(
     requires put_at { PutAt 1 k starts.old ends.old whites.old widths.old }
     ensures starts_after { starts.new ≡ set starts.old k (start_of word) }
     ensures ends_after { ends.new ≡ set ends.old k (end_of word) }
-    ensures whites_after { whites.new ≡ set whites.old k (whiteOf word) }
-    ensures widths_after { widths.new ≡ set widths.old k (widthOfWord word) }
+    ensures whites_after { whites.new ≡ set whites.old k (white_of word) }
+    ensures widths_after { widths.new ≡ set widths.old k (width_of_word word) }
 {
     starts[k] = word.start.0 as u32;
     ends[k] = word.end.0 as u32;
@@ -178,13 +178,13 @@ fn write_words(
     whites: &mut [u32],
     widths: &mut [u32],
 ) -> usize
-    requires text_len_bound { (length text.now ≤ textMost) × Whole text.now }
+    requires text_len_bound { (length text.now ≤ text_most) × Whole text.now }
     requires room { Room (length (words text.now)) starts.old ends.old whites.old widths.old }
     ensures value { result ≡ length (words text.now) }
     ensures starts_after { starts.new ≡ sets starts.old 0 (map start_of (words text.now)) }
     ensures ends_after { ends.new ≡ sets ends.old 0 (map end_of (words text.now)) }
-    ensures whites_after { whites.new ≡ sets whites.old 0 (map whiteOf (words text.now)) }
-    ensures widths_after { widths.new ≡ sets widths.old 0 (map widthOfWord (words text.now)) }
+    ensures whites_after { whites.new ≡ sets whites.old 0 (map white_of (words text.now)) }
+    ensures widths_after { widths.new ≡ sets widths.old 0 (map width_of_word (words text.now)) }
 {
     let mut at = Offset(0);
     let mut k = 0;
@@ -224,8 +224,8 @@ pub fn find_words(
     ensures value { result ≡ listed_of text.now (min (min (length starts.old) (length ends.old)) (min (length whites.old) (length widths.old))) }
     ensures starts_after { starts.new ≡ Finds result (map start_of (words text.now)) starts.old }
     ensures ends_after { ends.new ≡ Finds result (map end_of (words text.now)) ends.old }
-    ensures whites_after { whites.new ≡ Finds result (map whiteOf (words text.now)) whites.old }
-    ensures widths_after { widths.new ≡ Finds result (map widthOfWord (words text.now)) widths.old }
+    ensures whites_after { whites.new ≡ Finds result (map white_of (words text.now)) whites.old }
+    ensures widths_after { widths.new ≡ Finds result (map width_of_word (words text.now)) widths.old }
 {
     if TEXT_MOST < text.len() {
         return Listed::TooLong(Offset(text.len()));

@@ -2,13 +2,13 @@
 use Prim.Native.Nat.{◌-◌}
 use lib.ListN.{length}
 use borrow.Author.Rules.{rules}
-use Rattle.asked.specs.Plan.{argumentMost}
+use Rattle.asked.specs.Plan.{argument_most}
 use Rattle.asked.proofs.Words.{Running, running}
 use Rattle.asked.proofs.has_long.Statement.{statement}
 use Rattle.asked.proofs.has_long.Tie as tie
 
 abbrev invariant-loop : tie.invariant-loop
-invariant-loop block run₀ at₀ run at = Running argumentMost block run at
+invariant-loop block run₀ at₀ run at = Running argument_most block run at
 
 abbrev decreases-loop : tie.decreases-loop
 decreases-loop block run₀ at₀ run at = length block - at

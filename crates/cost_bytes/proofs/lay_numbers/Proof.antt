@@ -1,7 +1,7 @@
 -- `lay_numbers`: by the laws of `Laying`, from what the entry on lists of its own promises.
 use mathlib.Core.Path.{refl}
 use native.Mathlib.Omega.{arith}
-use Rattle.cost_bytes.proofs.Laying.{begun-few, lines-here, lines-room, costs-room, starts-room, laid-bytes}
+use Rattle.cost_bytes.proofs.Laying.{begun_few, lines_here, lines_room, costs_room, starts_room, laid_bytes}
 use borrow.Author.Rules.{rules}
 use Rattle.cost_bytes.proofs.lay_numbers.Statement.{statement}
 use Rattle.cost_bytes.proofs.lay_numbers.Tie as tie
@@ -29,7 +29,7 @@ write16s-requires c κs =
     let f = c.before.before.before.before.before.before in
     let g = f.before.before.before.before.before.before.before.before.before.before.before.requires in
     let k = f.wrap-optimal-fit.ensures in
-    (omega (arith, c.before.lines-in.ensures, lines-here g refl refl refl k), omega (arith, c.before.lines-in.ensures, lines-room g refl refl refl k))
+    (omega (arith, c.before.lines-in.ensures, lines_here g refl refl refl k), omega (arith, c.before.lines-in.ensures, lines_room g refl refl refl k))
 
 slice-aggregate-write64s : tie.Need-slice-aggregate-write64s
 slice-aggregate-write64s c = search rules
@@ -41,7 +41,7 @@ write64s-requires : tie.Need-write64s-requires
 write64s-requires c κs =
     let f = c.before.before.before.before.before.before.before.before.before.before.before in
     let g = f.before.before.before.before.before.before.before.before.before.before.before.requires in
-    (omega (arith, begun-few g), omega (arith, costs-room g refl refl refl f.wrap-optimal-fit.ensures))
+    (omega (arith, begun_few g), omega (arith, costs_room g refl refl refl f.wrap-optimal-fit.ensures))
 
 slice-aggregate-write16s-2 : tie.Need-slice-aggregate-write16s-2
 slice-aggregate-write16s-2 c = search rules
@@ -53,7 +53,7 @@ write16s-requires-2 : tie.Need-write16s-requires-2
 write16s-requires-2 c κs =
     let f = c.before.before.before.before.before.before.before.before.before.before.before.before.before.before.before.before in
     let g = f.before.before.before.before.before.before.before.before.before.before.before.requires in
-    (omega (arith, begun-few g), omega (arith, starts-room g refl refl refl f.wrap-optimal-fit.ensures))
+    (omega (arith, begun_few g), omega (arith, starts_room g refl refl refl f.wrap-optimal-fit.ensures))
 
 same_length : tie.Need-same-length
 same_length c = search rules
@@ -69,7 +69,7 @@ returns c =
     let l = c.before.before.before.before.before.before.before.before.before.before.before.before.before.before in
     let f = l.before.before.before.before.before in
     let g = f.before.before.before.before.before.before.before.before.before.before.before.requires in
-    laid-bytes g refl refl refl f.wrap-optimal-fit.ensures (rw l.lines-in.ensures at c.before.before.before.before.before.before.before.before.before.before.before.before.write16s.ensures) c.before.before.before.before.before.before.before.write64s.ensures c.before.before.write16s2.ensures
+    laid_bytes g refl refl refl f.wrap-optimal-fit.ensures (rw l.lines-in.ensures at c.before.before.before.before.before.before.before.before.before.before.before.before.write16s.ensures) c.before.before.before.before.before.before.before.write64s.ensures c.before.before.write16s2.ensures
 
 pub lay-numbers-spec : {M : Type 1} → statement M
 lay-numbers-spec =

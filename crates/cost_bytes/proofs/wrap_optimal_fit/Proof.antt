@@ -1,8 +1,8 @@
 -- `wrap_optimal_fit`: the tests are those of the bytes' numbers; by what they say the search is begun, or nothing changes.
 use native.Mathlib.Omega.{arith}
 use Rattle.wire.specs.Wire.{numbers16}
-use Rattle.wire.proofs.Laws.{numbers-length}
-use Rattle.cost_bytes.proofs.Entering.{begun-by, shut_by}
+use Rattle.wire.proofs.Laws.{numbers_length}
+use Rattle.cost_bytes.proofs.Entering.{begun_by, shut_by}
 use borrow.Author.Rules.{rules}
 use Rattle.cost_bytes.proofs.wrap_optimal_fit.Statement.{statement}
 use Rattle.cost_bytes.proofs.wrap_optimal_fit.Tie as tie
@@ -32,7 +32,7 @@ first-big-requires : tie.Need-first-big-requires
 first-big-requires c κs = search rules
 
 admit-requires : tie.Need-admit-requires
-admit-requires c κs = omega (arith, c.before.before.before.before.before.before.count16.ensures, numbers-length c.before.before.before.before.before.before.before.before.before.before.before.before.before.before.args.words.now)
+admit-requires c κs = omega (arith, c.before.before.before.before.before.before.count16.ensures, numbers_length c.before.before.before.before.before.before.before.before.before.before.before.before.before.before.args.words.now)
 
 enum-known-why : tie.Need-enum-known-why
 enum-known-why c = search rules
@@ -44,9 +44,9 @@ lay-bytes-requires : tie.Need-lay-bytes-requires
 lay-bytes-requires c κs =
     let a = c.before.before.before.before.before in
     let x = a.before.before.before.before.before.before.before.before.before.before.before.before.before.before.before.args in
-    begun-by (numbers16 x.words.now) (numbers16 x.whites.now) (numbers16 x.penalties.now) (numbers16 x.widths.now) x.p x.ends.now x.costs.now x.starts.now
+    begun_by (numbers16 x.words.now) (numbers16 x.whites.now) (numbers16 x.penalties.now) (numbers16 x.widths.now) x.p x.ends.now x.costs.now x.starts.now
     a.before.before.before.before.before.before.before.count16.ensures a.before.before.before.before.before.count162.ensures a.before.before.before.before.count163.ensures a.before.before.before.count164.ensures
-    a.before.before.before.before.before.before.first_above.ensures a.before.before.test-lists.ensures a.before.first-big.ensures a.admit.ensures c.before.before.before.enum_told.given.1
+    a.before.before.before.before.before.before.first_above.ensures a.before.before.test-lists.ensures a.before.first_big_lem.ensures a.admit.ensures c.before.before.before.enum_told.given.1
 
 returns : tie.Need-returns
 returns c =
@@ -54,7 +54,7 @@ returns c =
     let x = a.before.before.before.before.before.before.before.before.before.before.before.before.before.before.before.args in
     shut_by (numbers16 x.words.now) (numbers16 x.whites.now) (numbers16 x.penalties.now) (numbers16 x.widths.now) x.p x.ends.now x.costs.now x.starts.now
     a.before.before.before.before.before.before.before.count16.ensures a.before.before.before.before.before.count162.ensures a.before.before.before.before.count163.ensures a.before.before.before.count164.ensures
-    a.before.before.before.before.before.before.first_above.ensures a.before.before.test-lists.ensures a.before.first-big.ensures a.admit.ensures (search rules)
+    a.before.before.before.before.before.before.first_above.ensures a.before.before.test-lists.ensures a.before.first_big_lem.ensures a.admit.ensures (search rules)
 
 same_length : tie.Need-same-length
 same_length c = search rules

@@ -2,7 +2,7 @@
 use Prim.Native.Nat.{◌-◌}
 use lib.ListN.{length}
 use Rattle.logic.specs.Flat.{alone}
-use Rattle.first_fit.proofs.Laying.{Laying, laying-start, laying-break, laying-join, laying-end-alone, laying-lines, ends-room}
+use Rattle.first_fit.proofs.Laying.{Laying, laying_start, laying_break, laying_join, laying_end_alone, laying_lines, ends_room}
 use borrow.Author.Rules.{rules}
 use Rattle.first_fit.proofs.lay.Statement.{statement}
 use Rattle.first_fit.proofs.lay.Tie as tie
@@ -29,8 +29,8 @@ width-of-requires c κs = search rules
 loop-holds : tie.Need-loop-init invariant-loop decreases-loop
 loop-holds c =
     let a = c.before.before.before.before.before.before.before.before.args in
-    laying-start alone a.widths.now a.words.now a.whites.now a.penalties.now a.ends.now
-    (search rules) (ends-room _ a.words.now _ _ (search rules) (search rules)) c.before.before.number_at.ensures c.before.number-at2.ensures c.width_of_lem.ensures.0
+    laying_start alone a.widths.now a.words.now a.whites.now a.penalties.now a.ends.now
+    (search rules) (ends_room _ a.words.now _ _ (search rules) (search rules)) c.before.before.number_at.ensures c.before.number-at2.ensures c.width_of_lem.ensures.0
 
 add-i : tie.Need-overflow-add-i invariant-loop decreases-loop
 add-i c = search rules
@@ -65,7 +65,7 @@ loop-less c = search rules
 loop-again : tie.Need-loop-preserved invariant-loop decreases-loop
 loop-again c =
     let b = c.before.before.before.before.before.before in
-    laying-break alone _ _ _ _ b.before.before.before.before.before.loop.invariant (search rules) b.before.before.before.number-at3.ensures.0 b.before.before.number-at4.ensures.0
+    laying_break alone _ _ _ _ b.before.before.before.before.before.loop.invariant (search rules) b.before.before.before.number-at3.ensures.0 b.before.before.number-at4.ensures.0
     b.before.number-at5.ensures.0 b.starts-line.ensures (search rules) (search rules) (search rules) c.before.before.before.put-end.ensures c.width-of2.ensures.0
 
 add-columns-2 : tie.Need-overflow-add-columns-2 invariant-loop decreases-loop
@@ -77,7 +77,7 @@ loop-less-2 c = search rules
 loop-again-2 : tie.Need-loop-preserved-2 invariant-loop decreases-loop
 loop-again-2 c =
     let b = c.before in
-    laying-join alone _ _ _ _ b.before.before.before.before.before.loop.invariant (search rules) b.before.before.before.number-at3.ensures.0 b.before.before.number-at4.ensures.0
+    laying_join alone _ _ _ _ b.before.before.before.before.before.loop.invariant (search rules) b.before.before.before.number-at3.ensures.0 b.before.before.number-at4.ensures.0
     b.before.number-at5.ensures.0 b.starts-line.ensures (search rules) (search rules) (search rules)
 
 put-end-requires-2 : tie.Need-put-end-requires-2 invariant-loop decreases-loop
@@ -92,7 +92,7 @@ same_length c = search rules
 returns : tie.Need-returns invariant-loop decreases-loop
 returns c =
     let k = c.before.before.before.before.before.loop.invariant in
-    (laying-lines alone _ _ _ _ k (search rules), laying-end-alone k (search rules) c.before.before.put-end2.ensures)
+    (laying_lines alone _ _ _ _ k (search rules), laying_end_alone k (search rules) c.before.before.put-end2.ensures)
 
 pub lay-spec : {M : Type 1} → statement M
 lay-spec =

@@ -1,6 +1,6 @@
 -- `wrap_first_fit`: one law of `entering` for each way through it; a refusal comes before anything is written.
 use Rattle.first_fit.proofs.Entering.{entering}
-use Rattle.first_fit.proofs.Laying.{none-stored}
+use Rattle.first_fit.proofs.Laying.{none_stored}
 use borrow.Author.Rules.{rules}
 use Rattle.first_fit.proofs.wrap_first_fit.Statement.{statement}
 use Rattle.first_fit.proofs.wrap_first_fit.Tie as tie
@@ -30,7 +30,7 @@ same_length : tie.Need-same-length
 same_length c = search (entering, rules)
 
 returns-2 : tie.Need-returns-2
-returns-2 c = (search (entering, rules), search (none-stored, rules))
+returns-2 c = (search (entering, rules), search (none_stored, rules))
 
 lay-requires : tie.Need-lay-requires
 lay-requires c κs = search (entering, rules)

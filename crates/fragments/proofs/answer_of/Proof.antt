@@ -1,81 +1,81 @@
 -- `answer_of`: by the cases of what a layout answers.
 use Rattle.fragments.specs.Answers.{answer_of}
-use Rattle.fragments.proofs.Laws.{answer-of}
+use Rattle.fragments.proofs.Laws.{answer_of_lem}
 use borrow.Author.Rules.{rules}
 use Rattle.fragments.proofs.answer_of.Statement.{statement}
 use Rattle.fragments.proofs.answer_of.Tie as tie
 use Rattle.units.proofs.done.Reads as done-reads
-use Rattle.units.proofs.refused.Reads as refused-reads
+use Rattle.units.proofs.refused.Reads as refused_reads
 
 enum-known-l : tie.Need-enum-known-l
-enum-known-l c = search (answer-of, rules)
+enum-known-l c = search (answer_of_lem, rules)
 
 done-requires : tie.Need-done-requires
-done-requires c κs = search (answer-of, rules)
+done-requires c κs = search (answer_of_lem, rules)
 
 enum_told : tie.Need-enum-told
-enum_told c = search (answer-of, rules)
+enum_told c = search (answer_of_lem, rules)
 
 refused-requires : tie.Need-refused-requires
-refused-requires c κs = search (answer-of, rules)
+refused-requires c κs = search (answer_of_lem, rules)
 
 enum-told-2 : tie.Need-enum-told-2
-enum-told-2 c = search (answer-of, rules)
+enum-told-2 c = search (answer_of_lem, rules)
 
 refused-requires-2 : tie.Need-refused-requires-2
-refused-requires-2 c κs = search (answer-of, rules)
+refused-requires-2 c κs = search (answer_of_lem, rules)
 
 enum-known-l-2 : tie.Need-enum-known-l-2
-enum-known-l-2 c = search (answer-of, rules)
+enum-known-l-2 c = search (answer_of_lem, rules)
 
 refused-requires-3 : tie.Need-refused-requires-3
-refused-requires-3 c κs = search (answer-of, rules)
+refused-requires-3 c κs = search (answer_of_lem, rules)
 
 enum-known-l-3 : tie.Need-enum-known-l-3
-enum-known-l-3 c = search (answer-of, rules)
+enum-known-l-3 c = search (answer_of_lem, rules)
 
 refused-requires-4 : tie.Need-refused-requires-4
-refused-requires-4 c κs = search (answer-of, rules)
+refused-requires-4 c κs = search (answer_of_lem, rules)
 
 enum-known-l-4 : tie.Need-enum-known-l-4
-enum-known-l-4 c = search (answer-of, rules)
+enum-known-l-4 c = search (answer_of_lem, rules)
 
 refused-requires-5 : tie.Need-refused-requires-5
-refused-requires-5 c κs = search (answer-of, rules)
+refused-requires-5 c κs = search (answer_of_lem, rules)
 
 enum-told-3 : tie.Need-enum-told-3
-enum-told-3 c = search (answer-of, rules)
+enum-told-3 c = search (answer_of_lem, rules)
 
 refused-requires-6 : tie.Need-refused-requires-6
-refused-requires-6 c κs = search (answer-of, rules)
+refused-requires-6 c κs = search (answer_of_lem, rules)
 
 returns : tie.Need-returns
 unfolding answer_of
-returns c = search (answer-of, rules)
+returns c = search (answer_of_lem, rules)
 
 returns-2 : tie.Need-returns-2
 unfolding answer_of
-returns-2 c = search (answer-of, rules)
+returns-2 c = search (answer_of_lem, rules)
 
 returns-3 : tie.Need-returns-3
 unfolding answer_of
-returns-3 c = search (answer-of, rules)
+returns-3 c = search (answer_of_lem, rules)
 
 returns-4 : tie.Need-returns-4
 unfolding answer_of
-returns-4 c = search (answer-of, rules)
+returns-4 c = search (answer_of_lem, rules)
 
 returns-5 : tie.Need-returns-5
 unfolding answer_of
-returns-5 c = search (answer-of, rules)
+returns-5 c = search (answer_of_lem, rules)
 
 returns-6 : tie.Need-returns-6
 unfolding answer_of
-returns-6 c = search (answer-of, rules)
+returns-6 c = search (answer_of_lem, rules)
 
 returns-7 : tie.Need-returns-7
 unfolding answer_of
-returns-7 c = search (answer-of, rules)
+returns-7 c = search (answer_of_lem, rules)
 
 pub answer-of-spec : {M : Type 1} → statement M
 answer-of-spec =

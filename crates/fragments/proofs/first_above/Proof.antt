@@ -1,7 +1,7 @@
 -- `first_above`: a loop that counts, by the laws of `Below`.
 use Prim.Native.Nat.{◌-◌}
 use lib.ListN.{length}
-use Rattle.fragments.proofs.Laws.{Below, below_step, below-stop, looking}
+use Rattle.fragments.proofs.Laws.{Below, below_step, below_stop, looking}
 use borrow.Author.Rules.{rules}
 use Rattle.fragments.proofs.first_above.Statement.{statement}
 use Rattle.fragments.proofs.first_above.Tie as tie
@@ -20,7 +20,7 @@ number-at-requires : tie.Need-number-at-requires invariant-loop decreases-loop
 number-at-requires c κs = search (looking, rules)
 
 returns : tie.Need-returns invariant-loop decreases-loop
-returns c = below-stop c.before.before.before.loop.invariant (search rules) c.before.number_at.ensures.0 (search rules)
+returns c = below_stop c.before.before.before.loop.invariant (search rules) c.before.number_at.ensures.0 (search rules)
 
 add-i : tie.Need-overflow-add-i invariant-loop decreases-loop
 add-i c = search (looking, rules)

@@ -1,13 +1,13 @@
 -- `serve`: the buffer keeps its length, and the records that are left fall.
 use mathlib.Core.Path.{◌≡◌}
 use lib.ListN.{length}
-use Rattle.units.specs.Limits.{textMost}
+use Rattle.units.specs.Limits.{text_most}
 use borrow.Author.Rules.{rules}
 use Rattle.jobs.proofs.serve.Statement.{statement}
 use Rattle.jobs.proofs.serve.Tie as tie
 
 abbrev invariant-loop : tie.invariant-loop
-invariant-loop buffer₀ input output left₀ buffer left = length buffer ≡ textMost
+invariant-loop buffer₀ input output left₀ buffer left = length buffer ≡ text_most
 
 abbrev decreases-loop : tie.decreases-loop
 decreases-loop buffer₀ input output left₀ buffer left = left

@@ -1,7 +1,7 @@
 -- `judge_line`: at each word's start the lines that stand and the words to come are those of the whole input line, by the laws of `Judging`.
 use Prim.Native.Nat.{◌-◌}
 use lib.ListN.{length}
-use Rattle.judge.proofs.Judging.{Judging, judging-wide, judging}
+use Rattle.judge.proofs.Judging.{Judging, judging_wide, judging}
 use borrow.Author.Rules.{rules}
 use Rattle.judge.proofs.judge_line.Statement.{statement}
 use Rattle.judge.proofs.judge_line.Tie as tie
@@ -43,7 +43,7 @@ returns-2 : tie.Need-returns-2 invariant-loop decreases-loop
 returns-2 c =
     let tested = c.before.before in
     let met = tested.before.before.before.before in
-    judging-wide met.before.before.before.loop.invariant met.before.if2.true met.meet2.ensures tested.before.after-newline.ensures tested.is_IsWide.ensures c.before.if3.true
+    judging_wide met.before.before.before.loop.invariant met.before.if2.true met.meet2.ensures tested.before.after-newline.ensures tested.is_IsWide.ensures c.before.if3.true
 
 placed-requires-2 : tie.Need-placed-requires-2 invariant-loop decreases-loop
 placed-requires-2 c κs = search (judging, rules)

@@ -1,7 +1,7 @@
 -- `judge_lines`: what the input lines still to come make of what was found is what all make, by the laws of `Reading`.
 use Prim.Native.Nat.{suc, ◌-◌}
 use lib.ListN.{length}
-use Rattle.judge.proofs.Reading.{Reading, reading-lies, reading}
+use Rattle.judge.proofs.Reading.{Reading, reading_lies, reading}
 use borrow.Author.Rules.{rules}
 use Rattle.judge.proofs.judge_lines.Statement.{statement}
 use Rattle.judge.proofs.judge_lines.Tie as tie
@@ -36,7 +36,7 @@ part-judge-line-end c = search (reading, rules)
 judge-line-requires : tie.Need-judge-line-requires invariant-loop decreases-loop
 judge-line-requires c κs =
     let found = c.before.before in
-    reading-lies found.before.before.loop.invariant found.before.loop-test.true found.line-end.ensures c.before.body-end.ensures
+    reading_lies found.before.before.loop.invariant found.before.loop-test.true found.line-end.ensures c.before.body-end.ensures
 
 enum-known-lined : tie.Need-enum-known-lined invariant-loop decreases-loop
 enum-known-lined c = search (reading, rules)

@@ -1,5 +1,5 @@
 -- `space_at`: past the end there is none.
-use Rattle.judge.proofs.Changing.{space-none}
+use Rattle.judge.proofs.Changing.{space_none}
 use borrow.Author.Rules.{rules}
 use Rattle.judge.proofs.space_at.Statement.{statement}
 use Rattle.judge.proofs.space_at.Tie as tie
@@ -17,7 +17,7 @@ returns : tie.Need-returns
 returns c = search rules
 
 returns-2 : tie.Need-returns-2
-returns-2 c = search (space-none, rules)
+returns-2 c = search (space_none, rules)
 
 pub space-at-spec : {M : Type 1} → statement M
 space-at-spec = tie.close (tie.spec shared-slice-read-is-space is-space-requires returns returns-2)

@@ -1,5 +1,5 @@
 -- `kenupatun_break_words`: the numbers and lists of what breaking answers.
-use Rattle.kenupatun.proofs.Answers.{broken-by}
+use Rattle.kenupatun.proofs.Answers.{broken_by}
 use borrow.Author.Rules.{rules}
 use Rattle.kenupatun.proofs.kenupatun_break_words.Statement.{statement}
 use Rattle.kenupatun.proofs.kenupatun_break_words.Tie as tie
@@ -23,7 +23,7 @@ same-length-4 : tie.Need-same-length-4
 same-length-4 c = search rules
 
 returns : tie.Need-returns
-returns c = let e = c.before.before.before.before.before.before.before.before.before.break-words.ensures in (broken-by c.answer-of.ensures e.0, (rw e.0 at e.1.0, (rw e.0 at e.1.1.0, (rw e.0 at e.1.1.1.0, rw e.0 at e.1.1.1.1))))
+returns c = let e = c.before.before.before.before.before.before.before.before.before.break-words.ensures in (broken_by c.answer_of_lem.ensures e.0, (rw e.0 at e.1.0, (rw e.0 at e.1.1.0, (rw e.0 at e.1.1.1.0, rw e.0 at e.1.1.1.1))))
 
 pub kenupatun-break-words-spec : {M : Type 1} → statement M
 kenupatun-break-words-spec =

@@ -16,7 +16,7 @@ same_length c = search rules
 returns : tie.Need-returns
 returns c =
     let e = c.before.before.before.wrap-first-fit.ensures in
-    (laid_by c.answer-of.ensures e.0, rw e.0 at e.1)
+    (laid_by c.answer_of_lem.ensures e.0, rw e.0 at e.1)
 
 pub kenupatun-first-fit-spec : {M : Type 1} → statement M
 kenupatun-first-fit-spec =

@@ -20,7 +20,7 @@ same-length-3 : tie.Need-same-length-3
 same-length-3 c = search rules
 
 returns : tie.Need-returns
-returns c = least_by c.answer-of.ensures c.before.before.before.before.before.before.before.wrap-optimal-fit.ensures
+returns c = least_by c.answer_of_lem.ensures c.before.before.before.before.before.before.before.wrap-optimal-fit.ensures
 
 pub kenupatun-least-cost-spec : {M : Type 1} → statement M
 kenupatun-least-cost-spec =

@@ -1,5 +1,5 @@
 -- `kenupatun_words`: the numbers and lists of what the finder answers.
-use Rattle.kenupatun.proofs.Answers.{found-by}
+use Rattle.kenupatun.proofs.Answers.{found_by}
 use borrow.Author.Rules.{rules}
 use Rattle.kenupatun.proofs.kenupatun_words.Statement.{statement}
 use Rattle.kenupatun.proofs.kenupatun_words.Tie as tie
@@ -25,7 +25,7 @@ same-length-4 c = search rules
 returns : tie.Need-returns
 returns c =
     let e = c.before.before.before.before.before.before.before.before.before.find-words.ensures in
-    (found-by c.answer-of.ensures e.0, (rw e.0 at e.1.0, (rw e.0 at e.1.1.0, (rw e.0 at e.1.1.1.0, rw e.0 at e.1.1.1.1))))
+    (found_by c.answer_of_lem.ensures e.0, (rw e.0 at e.1.0, (rw e.0 at e.1.1.0, (rw e.0 at e.1.1.1.0, rw e.0 at e.1.1.1.1))))
 
 pub kenupatun-words-spec : {M : Type 1} → statement M
 kenupatun-words-spec =

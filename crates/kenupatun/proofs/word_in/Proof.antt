@@ -1,6 +1,6 @@
 -- `word_in`: by the cases of what `word_from` answers.
 use Rattle.kenupatun.specs.Exports.{word_in}
-use Rattle.kenupatun.proofs.Answers.{word-in}
+use Rattle.kenupatun.proofs.Answers.{word_in_lem}
 use borrow.Author.Rules.{rules}
 use Rattle.kenupatun.proofs.word_in.Statement.{statement}
 use Rattle.kenupatun.proofs.word_in.Tie as tie
@@ -22,15 +22,15 @@ no-word-requires-2 c κs = search rules
 
 returns : tie.Need-returns
 unfolding word_in
-returns c = search (word-in, rules)
+returns c = search (word_in_lem, rules)
 
 returns-2 : tie.Need-returns-2
 unfolding word_in
-returns-2 c = search (word-in, rules)
+returns-2 c = search (word_in_lem, rules)
 
 returns-3 : tie.Need-returns-3
 unfolding word_in
-returns-3 c = search (word-in, rules)
+returns-3 c = search (word_in_lem, rules)
 
 pub word-in-spec : {M : Type 1} → statement M
 word-in-spec =

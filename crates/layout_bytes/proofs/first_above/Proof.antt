@@ -3,7 +3,7 @@ use Prim.Native.Nat.{◌-◌}
 use mathlib.Core.Path.{◌≡◌}
 use lib.ListN.{length}
 use Rattle.wire.specs.Wire.{numbers16}
-use Rattle.fragments.proofs.Laws.{Below, below_step, below-stop, below_end, looking}
+use Rattle.fragments.proofs.Laws.{Below, below_step, below_stop, below_end, looking}
 use borrow.Author.Rules.{rules}
 use Rattle.layout_bytes.proofs.first_above.Statement.{statement}
 use Rattle.layout_bytes.proofs.first_above.Tie as tie
@@ -24,7 +24,7 @@ get16-requires : tie.Need-get16-requires invariant-loop decreases-loop
 get16-requires c κs = search (looking, rules)
 
 returns : tie.Need-returns invariant-loop decreases-loop
-returns c = below-stop c.before.before.before.loop.invariant.1 (search rules) c.before.get16.ensures.0 (search rules)
+returns c = below_stop c.before.before.before.loop.invariant.1 (search rules) c.before.get16.ensures.0 (search rules)
 
 add-i : tie.Need-overflow-add-i invariant-loop decreases-loop
 add-i c = search (looking, rules)

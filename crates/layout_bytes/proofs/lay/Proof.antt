@@ -3,8 +3,8 @@ use Prim.Native.Nat.{◌-◌, ◌*◌}
 use mathlib.Core.Path.{◌≡◌}
 use lib.ListN.{length}
 use Rattle.wire.specs.Wire.{be16, numbers16}
-use Rattle.first_fit.proofs.Laying.{Laying, laying-start, laying-join, laying-end, laying-lines}
-use Rattle.layout_bytes.proofs.Laying.{bytes-room, bytes-break}
+use Rattle.first_fit.proofs.Laying.{Laying, laying_start, laying_join, laying_end, laying_lines}
+use Rattle.layout_bytes.proofs.Laying.{bytes_room, bytes_break}
 use borrow.Author.Rules.{rules}
 use Rattle.layout_bytes.proofs.lay.Statement.{statement}
 use Rattle.layout_bytes.proofs.lay.Tie as tie
@@ -35,8 +35,8 @@ loop-holds : tie.Need-loop-init invariant-loop decreases-loop
 loop-holds c =
     let a = c.before.before.before.before.before.before.before.before.before.args in (
       c.before.before.before.count16.ensures,
-      laying-start be16 (numbers16 a.widths.now) (numbers16 a.words.now) (numbers16 a.whites.now) (numbers16 a.penalties.now) a.ends.now
-          (search rules) (bytes-room _ (numbers16 a.words.now) _ _ a.ends.now (search rules) (search rules)) c.before.before.get16.ensures c.before.get162.ensures c.width_of_lem.ensures.0,
+      laying_start be16 (numbers16 a.widths.now) (numbers16 a.words.now) (numbers16 a.whites.now) (numbers16 a.penalties.now) a.ends.now
+          (search rules) (bytes_room _ (numbers16 a.words.now) _ _ a.ends.now (search rules) (search rules)) c.before.before.get16.ensures c.before.get162.ensures c.width_of_lem.ensures.0,
     )
 
 add-i : tie.Need-overflow-add-i invariant-loop decreases-loop
@@ -74,7 +74,7 @@ loop-again c =
     let b = c.before.before.before.before.before.before in
     let k = b.before.before.before.before.before.loop.invariant in (
       k.0,
-      bytes-break _ _ _ _ k.1 (search rules) b.before.before.before.get163.ensures.0 b.before.before.get164.ensures.0
+      bytes_break _ _ _ _ k.1 (search rules) b.before.before.before.get163.ensures.0 b.before.before.get164.ensures.0
           b.before.get165.ensures.0 b.starts-line.ensures (search rules) (search rules) (search rules) c.before.before.before.put-end.ensures c.width-of2.ensures.0,
     )
 
@@ -89,7 +89,7 @@ loop-again-2 c =
     let b = c.before in
     let k = b.before.before.before.before.before.loop.invariant in (
       k.0,
-      laying-join be16 _ _ _ _ k.1 (search rules) b.before.before.before.get163.ensures.0 b.before.before.get164.ensures.0
+      laying_join be16 _ _ _ _ k.1 (search rules) b.before.before.before.get163.ensures.0 b.before.before.get164.ensures.0
           b.before.get165.ensures.0 b.starts-line.ensures (search rules) (search rules) (search rules),
     )
 
@@ -105,7 +105,7 @@ same_length c = search rules
 returns : tie.Need-returns invariant-loop decreases-loop
 returns c =
     let k = c.before.before.before.before.before.loop.invariant in
-    (laying-lines be16 _ _ _ _ k.1 (search rules), laying-end be16 _ _ _ _ k.1 (search rules) c.before.before.put-end2.ensures)
+    (laying_lines be16 _ _ _ _ k.1 (search rules), laying_end be16 _ _ _ _ k.1 (search rules) c.before.before.put-end2.ensures)
 
 pub lay-spec : {M : Type 1} → statement M
 lay-spec =

@@ -1,6 +1,6 @@
 -- `wrap_first_fit`: one law of `entering` for each way through it; a refusal comes before anything is written.
-use Rattle.first_fit.proofs.Entering.{lists-fit, entering}
-use Rattle.layout_bytes.proofs.Laying.{none-stored}
+use Rattle.first_fit.proofs.Entering.{lists_fit, entering}
+use Rattle.layout_bytes.proofs.Laying.{none_stored}
 use borrow.Author.Rules.{rules}
 use Rattle.layout_bytes.proofs.wrap_first_fit.Statement.{statement}
 use Rattle.layout_bytes.proofs.wrap_first_fit.Tie as tie
@@ -42,12 +42,12 @@ same_length : tie.Need-same-length
 same_length c = search (entering, rules)
 
 returns-2 : tie.Need-returns-2
-returns-2 c = (search (entering, rules), search (none-stored, rules))
+returns-2 c = (search (entering, rules), search (none_stored, rules))
 
 lay-requires : tie.Need-lay-requires
 lay-requires c κs =
     let t = c.before.before.before.before.before.before in (
-      lists-fit _ _ _ _ _ t.before.before.before.before.before.count16.ensures t.before.before.before.count162.ensures t.before.before.count163.ensures
+      lists_fit _ _ _ _ _ t.before.before.before.before.before.count16.ensures t.before.before.before.count162.ensures t.before.before.count163.ensures
           t.before.count164.ensures t.before.before.before.before.first_above.ensures t.test-lists.ensures (search rules) c.before.before.before.places-needed.ensures (search rules),
       search rules,
     )

@@ -6,7 +6,7 @@ use borrow.Author.Rules.{rules}
 use borrow.Fn.Kinds.{In}
 use borrow.Fn.PlainCycle.{Measures, is, falls, and}
 use Rattle.cheapest.specs.Table.{at}
-use Rattle.cheapest.proofs.Lines.{line-zero, line-next, line-le}
+use Rattle.cheapest.proofs.Lines.{line_zero, line_next, line_le}
 use Rattle.least_cost.proofs.line_number.Reads as line-number
 use Rattle.least_cost.proofs.line_number.Kinds as line-number-kinds
 use Rattle.least_cost.proofs.+line_number.Lts-line_number as line-number-lts
@@ -61,13 +61,13 @@ line-number-add-result t c =
     let at-start = c.before.before.before in
     let s = at at-start.args.starts.now in
     let j = at-start.args.position.0 in
-    omega (arith, at-start.requires.1.1 j (omega arith) (omega arith), line-le s (s j))
+    omega (arith, at-start.requires.1.1 j (omega arith) (omega arith), line_le s (s j))
 
 line-number-returns : (t : ℕ) → line-number-lts.Need-returns (
   line-number-below t,
   line-number.Post,
 ) (line-number-at t) line-number.Post
-line-number-returns t c = rw c.if1.true (sym (line-zero _))
+line-number-returns t c = rw c.if1.true (sym (line_zero _))
 
 line-number-returns-2 : (t : ℕ) → line-number-lts.Need-returns-2 (
   line-number-below t,
@@ -76,7 +76,7 @@ line-number-returns-2 : (t : ℕ) → line-number-lts.Need-returns-2 (
 line-number-returns-2 t c =
     let at-start = c.before.before.before in
     let s = at at-start.args.starts.now in
-    omega (arith, line-next s at-start.args.position.0 at-start.requires.1.1 (omega arith))
+    omega (arith, line_next s at-start.args.position.0 at-start.requires.1.1 (omega arith))
 
 pub +line-number-spec : {M : Type 1} → statement M
 +line-number-spec = close μ-line-number λ t. line-number-lts.spec (

@@ -1,6 +1,6 @@
 -- `best_start`: of the starts from i on, the choice so far is the first cheapest (`Pulled`); each turn has one start more, and a hopeless rest need not be tried.
 use borrow.Author.Rules.{rules}
-use Rattle.least_cost.proofs.Searching.{Pulled, start-ready, pulled-weigh, pulled-win, pulled-lose, pulled-cut, pulling}
+use Rattle.least_cost.proofs.Searching.{Pulled, start_ready, pulled_weigh, pulled_win, pulled_lose, pulled_cut, pulling}
 use Rattle.least_cost.proofs.best_start.Statement.{statement}
 use Rattle.least_cost.proofs.best_start.Tie as tie
 
@@ -22,7 +22,7 @@ width-with-requires c κs = search rules
 
 start-price-requires : tie.Need-start-price-requires invariant-loop decreases-loop
 start-price-requires c κs =
-    start-ready _ _ _ _ _ _ _ _ c.before.before.before.before.before.before.requires (search rules) (search rules)
+    start_ready _ _ _ _ _ _ _ _ c.before.before.before.before.before.before.requires (search rules) (search rules)
 
 loop-holds : tie.Need-loop-init invariant-loop decreases-loop
 loop-holds c = search (pulling, rules)
@@ -40,13 +40,13 @@ shared-slice-read-hopeless : tie.Need-shared-slice-read-hopeless invariant-loop 
 shared-slice-read-hopeless c = search rules
 
 hopeless-requires : tie.Need-hopeless-requires invariant-loop decreases-loop
-hopeless-requires c κs = pulled-weigh _ _ _ _ _ _ _ _ c.before.before.before.loop.invariant (search rules)
+hopeless-requires c κs = pulled_weigh _ _ _ _ _ _ _ _ c.before.before.before.loop.invariant (search rules)
 
 returns : tie.Need-returns invariant-loop decreases-loop
 returns c =
     let at_tail = c.before.before.before in
     let inv = at_tail.before.before.loop.invariant in
-    pulled-cut _ _ _ _ _ _ _ _ inv (search rules) at_tail.number-at2.ensures.0 (c.before.hopeless.ensures c.if1.true)
+    pulled_cut _ _ _ _ _ _ _ _ inv (search rules) at_tail.number-at2.ensures.0 (c.before.hopeless.ensures c.if1.true)
 
 width-with-requires-2 : tie.Need-width-with-requires-2 invariant-loop decreases-loop
 width-with-requires-2 c κs = search rules
@@ -57,7 +57,7 @@ add-len c = search rules
 start-price-requires-2 : tie.Need-start-price-requires-2 invariant-loop decreases-loop
 start-price-requires-2 c κs =
     let inv = c.before.before.before.before.before.before.loop.invariant in
-    start-ready _ _ _ _ _ _ _ _ inv.ready (search (pulling, rules)) (search rules)
+    start_ready _ _ _ _ _ _ _ _ inv.ready (search (pulling, rules)) (search rules)
 
 loop-less : tie.Need-loop-smaller invariant-loop decreases-loop
 loop-less c = search rules
@@ -65,7 +65,7 @@ loop-less c = search rules
 loop-again : tie.Need-loop-preserved invariant-loop decreases-loop
 loop-again c =
     let inv = c.before.before.before.before.before.before.before.before.loop.invariant in
-    pulled-win _ _ _ _ _ _ _ _ inv (search rules) (search rules) (search rules) c.before.start-price2.ensures.0 (search rules) (search rules)
+    pulled_win _ _ _ _ _ _ _ _ inv (search rules) (search rules) (search rules) c.before.start-price2.ensures.0 (search rules) (search rules)
 
 loop-less-2 : tie.Need-loop-smaller-2 invariant-loop decreases-loop
 loop-less-2 c = search rules
@@ -73,7 +73,7 @@ loop-less-2 c = search rules
 loop-again-2 : tie.Need-loop-preserved-2 invariant-loop decreases-loop
 loop-again-2 c =
     let inv = c.before.before.before.before.before.before.before.before.loop.invariant in
-    pulled-lose _ _ _ _ _ _ _ _ inv (search rules) (search rules) (search rules) c.before.start-price2.ensures.0 (search rules)
+    pulled_lose _ _ _ _ _ _ _ _ inv (search rules) (search rules) (search rules) c.before.start-price2.ensures.0 (search rules)
 
 returns-2 : tie.Need-returns-2 invariant-loop decreases-loop
 returns-2 c = search (pulling, rules)

@@ -1,7 +1,7 @@
 -- `clear`: the places before k are zero, and the others are as they were (`Cleared`).
 use Prim.Native.Nat.{◌+◌, ◌-◌, ◌≤◌}
 use borrow.Author.Rules.{rules}
-use Rattle.least_cost.proofs.Writing.{Cleared, cleared-end, clearing}
+use Rattle.least_cost.proofs.Writing.{Cleared, cleared_end, clearing}
 use Rattle.least_cost.proofs.clear.Statement.{statement}
 use Rattle.least_cost.proofs.clear.Tie as tie
 
@@ -44,7 +44,7 @@ same-length-2 c = search rules
 returns : tie.Need-returns invariant-loop decreases-loop
 returns c =
     let inv = c.before.loop.invariant in
-    (cleared-end c.before.before.args.n inv.1 (search rules), cleared-end c.before.before.args.n inv.2 (search rules))
+    (cleared_end c.before.before.args.n inv.1 (search rules), cleared_end c.before.before.args.n inv.2 (search rules))
 
 pub clear_spec : {M : Type 1} → statement M
 clear_spec =

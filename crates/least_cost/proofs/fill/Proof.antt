@@ -1,6 +1,6 @@
 -- `fill`: with every target that of the first line, the table can be filled.
 use borrow.Author.Rules.{rules}
-use Rattle.least_cost.proofs.Filling.{filling-all}
+use Rattle.least_cost.proofs.Filling.{filling_all}
 use Rattle.least_cost.proofs.fill.Statement.{statement}
 use Rattle.least_cost.proofs.fill.Tie as tie
 
@@ -8,7 +8,7 @@ target-of-requires : tie.Need-target-of-requires
 target-of-requires c κs = search rules
 
 fill-table-requires : tie.Need-fill-table-requires
-fill-table-requires c κs = search (filling-all, rules)
+fill-table-requires c κs = search (filling_all, rules)
 
 same_length : tie.Need-same-length
 same_length c = search rules

@@ -4,7 +4,7 @@ use Prim.Native.Nat.{◌-◌}
 use native.Mathlib.Omega.{arith}
 use lib.ListN.{length, length-set}
 use borrow.Author.Rules.{rules}
-use Rattle.least_cost.proofs.Filling.{Filling, filling-start, chosen-falls, filling-done, filling-one, filling_many, filling-end, filling}
+use Rattle.least_cost.proofs.Filling.{Filling, filling_start, chosen_falls, filling_done, filling_one, filling_many, filling_end, filling}
 use Rattle.least_cost.proofs.fill_table.Statement.{statement}
 use Rattle.least_cost.proofs.fill_table.Tie as tie
 
@@ -31,7 +31,7 @@ loop-holds c =
     let k2 = k3.before in
     let k1 = k2.before in
     let at-start = k1.before in
-    filling-start _ _ _ _ _ _ at-start.args.costs.now at-start.args.starts.now at-start.requires
+    filling_start _ _ _ _ _ _ at-start.args.costs.now at-start.args.starts.now at-start.requires
     (λ k. omega (arith, k1.shared-slice-known.given k))
     (λ k. omega (arith, k2.shared-slice-known2.given k))
     (λ k. omega (arith, k3.shared-slice-known3.given k))
@@ -69,7 +69,7 @@ line-number-requires : tie.Need-line-number-requires invariant-loop decreases-lo
 line-number-requires c κs =
     let at-best = c.before.before.before in
     let inv = at-best.before.before.before.before.loop.invariant in
-    (omega (arith, inv.done.fixed.even.few), chosen-falls _ _ _ _ _ _ _ _ inv (search rules) at-best.best-start.ensures)
+    (omega (arith, inv.done.fixed.even.few), chosen_falls _ _ _ _ _ _ _ _ inv (search rules) at-best.best-start.ensures)
 
 target-of-requires : tie.Need-target-of-requires invariant-loop decreases-loop
 target-of-requires c κs = search rules
@@ -89,7 +89,7 @@ loop-again c =
     let at-best = at-line.before.before.before.before in
     let inv = at-best.before.before.before.before.loop.invariant in
     let best = at-best.best-start.ensures in
-    filling_many _ _ _ _ _ _ _ _ inv (search rules) best (filling-done _ _ _ _ _ _ _ _ inv (search rules) best) (search rules) at-line.line-number.ensures c.target-of.ensures
+    filling_many _ _ _ _ _ _ _ _ inv (search rules) best (filling_done _ _ _ _ _ _ _ _ inv (search rules) best) (search rules) at-line.line-number.ensures c.target-of.ensures
 
 loop-less-2 : tie.Need-loop-smaller-2 invariant-loop decreases-loop
 loop-less-2 c = search rules
@@ -99,7 +99,7 @@ loop-again-2 c =
     let at-best = c.before.before in
     let inv = at-best.before.before.before.before.loop.invariant in
     let best = at-best.best-start.ensures in
-    filling-one _ _ _ _ _ _ _ _ inv (search rules) best (filling-done _ _ _ _ _ _ _ _ inv (search rules) best) (search rules)
+    filling_one _ _ _ _ _ _ _ _ inv (search rules) best (filling_done _ _ _ _ _ _ _ _ inv (search rules) best) (search rules)
 
 same_length : tie.Need-same-length invariant-loop decreases-loop
 same_length c = c.before.loop.invariant.done.room ∙ simp length-set
@@ -110,7 +110,7 @@ same-length-2 c = c.before.loop.invariant.done.place ∙ simp length-set
 returns : tie.Need-returns invariant-loop decreases-loop
 returns c =
     let at-start = c.before.before.before.before.before.before.before.before.before in
-    filling-end _ _ _ _ _ _ at-start.args.costs.now at-start.args.starts.now c.before.loop.invariant c.loop-test.false
+    filling_end _ _ _ _ _ _ at-start.args.costs.now at-start.args.starts.now c.before.loop.invariant c.loop-test.false
 
 pub fill-table-spec : {M : Type 1} → statement M
 fill-table-spec =

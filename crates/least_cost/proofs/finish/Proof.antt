@@ -1,6 +1,6 @@
 -- `finish`: a cost above the limit leaves zeros, any other the ends of the lines.
 use borrow.Author.Rules.{rules}
-use Rattle.least_cost.proofs.Laying.{finish-dear, finish-laid}
+use Rattle.least_cost.proofs.Laying.{finish_dear, finish_laid}
 use Rattle.least_cost.proofs.finish.Statement.{statement}
 use Rattle.least_cost.proofs.finish.Tie as tie
 
@@ -20,7 +20,7 @@ same-length-2 : tie.Need-same-length-2
 same-length-2 c = search rules
 
 returns : tie.Need-returns
-returns c = finish-dear _ (search rules) (search rules) (search rules)
+returns c = finish_dear _ (search rules) (search rules) (search rules)
 
 write-ends-requires : tie.Need-write-ends-requires
 write-ends-requires c κs = search rules
@@ -32,7 +32,7 @@ same-length-4 : tie.Need-same-length-4
 same-length-4 c = search rules
 
 returns-2 : tie.Need-returns-2
-returns-2 c = finish-laid _ (search rules) (search rules) (search rules)
+returns-2 c = finish_laid _ (search rules) (search rules) (search rules)
 
 pub finish_spec : {M : Type 1} → statement M
 finish_spec =

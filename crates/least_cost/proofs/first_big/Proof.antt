@@ -1,14 +1,14 @@
 -- `first_big`: the penalties before i are within bounds (`Below`).
 use Prim.Native.Nat.{◌-◌}
 use borrow.Author.Rules.{rules}
-use Rattle.units.specs.Limits.{penaltyMost}
+use Rattle.units.specs.Limits.{penalty_most}
 use Rattle.fragments.proofs.Laws.{Below, looking}
-use Rattle.least_cost.specs.Layout.{firstBig}
+use Rattle.least_cost.specs.Layout.{first_big}
 use Rattle.least_cost.proofs.first_big.Statement.{statement}
 use Rattle.least_cost.proofs.first_big.Tie as tie
 
 abbrev invariant-loop : tie.invariant-loop
-invariant-loop five i₀ i = Below penaltyMost five i
+invariant-loop five i₀ i = Below penalty_most five i
 
 abbrev decreases-loop : tie.decreases-loop
 decreases-loop five i₀ i = 5 - i
@@ -23,7 +23,7 @@ array-read-if1 : tie.Need-array-read-if1 invariant-loop decreases-loop
 array-read-if1 c = search rules
 
 returns : tie.Need-returns invariant-loop decreases-loop
-unfolding firstBig
+unfolding first_big
 returns c = search (looking, rules)
 
 add-i : tie.Need-overflow-add-i invariant-loop decreases-loop
@@ -36,7 +36,7 @@ loop-again : tie.Need-loop-preserved invariant-loop decreases-loop
 loop-again c = search (looking, rules)
 
 returns-2 : tie.Need-returns-2 invariant-loop decreases-loop
-unfolding firstBig
+unfolding first_big
 returns-2 c = search (looking, rules)
 
 pub first-big-spec : {M : Type 1} → statement M

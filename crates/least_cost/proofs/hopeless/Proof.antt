@@ -2,7 +2,7 @@
 use mathlib.Core.Path.{refl}
 use borrow.Author.Rules.{rules}
 use Rattle.logic.proofs.Choice.{clash}
-use Rattle.least_cost.proofs.Pricing.{pricing, hopeless-true}
+use Rattle.least_cost.proofs.Pricing.{pricing, hopeless_true}
 use Rattle.least_cost.proofs.hopeless.Statement.{statement}
 use Rattle.least_cost.proofs.hopeless.Tie as tie
 
@@ -37,7 +37,7 @@ add-result-3 : tie.Need-overflow-add-result-3
 add-result-3 c = search (pricing, rules)
 
 returns-2 : tie.Need-returns-2
-returns-2 c = λ t. hopeless-true c.before.before.before.larger.ensures (search rules) c.before.wide.ensures c.ending-price.ensures t
+returns-2 c = λ t. hopeless_true c.before.before.before.larger.ensures (search rules) c.before.wide.ensures c.ending-price.ensures t
 
 pub hopeless-spec : {M : Type 1} → statement M
 hopeless-spec =

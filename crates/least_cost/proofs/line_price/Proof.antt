@@ -1,6 +1,6 @@
 -- `line_price`: the sum of its three parts, which fits.
 use borrow.Author.Rules.{rules}
-use Rattle.least_cost.proofs.Pricing.{pricing, line-whole}
+use Rattle.least_cost.proofs.Pricing.{pricing, line_whole}
 use Rattle.least_cost.proofs.line_price.Statement.{statement}
 use Rattle.least_cost.proofs.line_price.Tie as tie
 
@@ -20,7 +20,7 @@ add-result-2 : tie.Need-overflow-add-result-2
 add-result-2 c = search (pricing, rules)
 
 returns : tie.Need-returns
-returns c = line-whole _ _ _ _ _ _ _ (search rules) (search rules) (search rules) (search rules) (search rules)
+returns c = line_whole _ _ _ _ _ _ _ (search rules) (search rules) (search rules) (search rules) (search rules)
 
 pub line-price-spec : {M : Type 1} → statement M
 line-price-spec =

@@ -1,6 +1,6 @@
 -- `write_ends`: the ends written and those still to come are all of them (`Writing`).
 use borrow.Author.Rules.{rules}
-use Rattle.least_cost.proofs.Writing.{Writing, lines_none, writing-end, writing}
+use Rattle.least_cost.proofs.Writing.{Writing, lines_none, writing_end, writing}
 use Rattle.least_cost.proofs.write_ends.Statement.{statement}
 use Rattle.least_cost.proofs.write_ends.Tie as tie
 
@@ -46,7 +46,7 @@ same-length-2 : tie.Need-same-length-2 invariant-loop decreases-loop
 same-length-2 c = search (writing, rules)
 
 returns-2 : tie.Need-returns-2 invariant-loop decreases-loop
-returns-2 c = writing-end _ _ c.before.loop.invariant (search rules) (search rules) (search rules)
+returns-2 c = writing_end _ _ c.before.loop.invariant (search rules) (search rules) (search rules)
 
 pub write-ends-spec : {M : Type 1} → statement M
 write-ends-spec =

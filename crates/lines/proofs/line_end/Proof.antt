@@ -2,13 +2,13 @@
 use Prim.Native.Nat.{◌-◌}
 use lib.ListN.{length}
 use Rattle.logic.proofs.Count.{Counting, counting}
-use Rattle.lines.specs.Lines.{inLine, lineEnd}
+use Rattle.lines.specs.Lines.{in_line, line_end}
 use borrow.Author.Rules.{rules}
 use Rattle.lines.proofs.line_end.Statement.{statement}
 use Rattle.lines.proofs.line_end.Tie as tie
 
 abbrev invariant-loop : tie.invariant-loop
-invariant-loop text from at₀ at = Counting inLine text at₀ at
+invariant-loop text from at₀ at = Counting in_line text at₀ at
 
 abbrev decreases-loop : tie.decreases-loop
 decreases-loop text from at₀ at = length text - at
@@ -23,7 +23,7 @@ in-line-requires : tie.Need-in-line-requires invariant-loop decreases-loop
 in-line-requires c κs = search (counting, rules)
 
 returns : tie.Need-returns invariant-loop decreases-loop
-unfolding lineEnd
+unfolding line_end
 returns c = search (counting, rules)
 
 add_at : tie.Need-overflow-add-at invariant-loop decreases-loop
@@ -36,7 +36,7 @@ loop-again : tie.Need-loop-preserved invariant-loop decreases-loop
 loop-again c = search (counting, rules)
 
 returns-2 : tie.Need-returns-2 invariant-loop decreases-loop
-unfolding lineEnd
+unfolding line_end
 returns-2 c = search (counting, rules)
 
 pub line-end-spec : {M : Type 1} → statement M

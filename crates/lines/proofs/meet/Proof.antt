@@ -1,5 +1,5 @@
 -- `meet`: what the step finds, which is always a word.
-use Rattle.lines.proofs.Walk.{meets, meets-small, meets-always}
+use Rattle.lines.proofs.Walk.{meets, meets_small, meets_always}
 use borrow.Author.Rules.{rules}
 use Rattle.lines.proofs.meet.Statement.{statement}
 use Rattle.lines.proofs.meet.Tie as tie
@@ -11,10 +11,10 @@ enum-known-word : tie.Need-enum-known-word
 enum-known-word c = search rules
 
 returns : tie.Need-returns
-returns c = absurd (search (meets-always, rules))
+returns c = absurd (search (meets_always, rules))
 
 add-both : tie.Need-overflow-add-both
-add-both c = search (meets-small, rules)
+add-both c = search (meets_small, rules)
 
 returns-2 : tie.Need-returns-2
 returns-2 c = search (meets, rules)

@@ -1,8 +1,8 @@
 -- `list_pieces`: one law of `breaking` for each way through it; a refusal comes before anything is written.
 use mathlib.Core.Path.{refl}
-use Rattle.words.proofs.Finding.{find-whole}
+use Rattle.words.proofs.Finding.{find_whole}
 use Rattle.pieces.proofs.Listing.{breaking}
-use Rattle.word_bytes.proofs.Start.{bytes-room}
+use Rattle.word_bytes.proofs.Start.{bytes_room}
 use borrow.Author.Rules.{rules}
 use Rattle.piece_bytes.proofs.list_pieces.Statement.{statement}
 use Rattle.piece_bytes.proofs.list_pieces.Tie as tie
@@ -20,7 +20,7 @@ returns-2 : tie.Need-returns-2
 returns-2 c = (search (breaking, rules), (refl, (refl, (refl, refl))))
 
 count-pieces-requires : tie.Need-count-pieces-requires
-count-pieces-requires c κs = (search rules, search (find-whole, rules))
+count-pieces-requires c κs = (search rules, search (find_whole, rules))
 
 shortest-requires : tie.Need-shortest-requires
 shortest-requires c κs = search (breaking, rules)
@@ -29,7 +29,7 @@ returns-3 : tie.Need-returns-3
 returns-3 c = (search (breaking, rules), (refl, (refl, (refl, refl))))
 
 write-pieces-requires : tie.Need-write-pieces-requires
-write-pieces-requires c κs = ((search rules, search rules, search (find-whole, rules)), search (bytes-room, rules))
+write-pieces-requires c κs = ((search rules, search rules, search (find_whole, rules)), search (bytes_room, rules))
 
 enum-known-at : tie.Need-enum-known-at
 enum-known-at c = search (breaking, rules)

@@ -2,8 +2,8 @@
 use Prim.Native.Nat.{◌-◌}
 use native.Mathlib.Omega.{arith}
 use Rattle.wire.specs.Wire.{be32}
-use Rattle.pieces.proofs.Listing.{Putting, putting-end, putting}
-use Rattle.piece_bytes.proofs.Start.{bytes-start}
+use Rattle.pieces.proofs.Listing.{Putting, putting_end, putting}
+use Rattle.piece_bytes.proofs.Start.{bytes_start}
 use borrow.Author.Rules.{rules}
 use Rattle.piece_bytes.proofs.write_pieces.Statement.{statement}
 use Rattle.piece_bytes.proofs.write_pieces.Tie as tie
@@ -16,25 +16,25 @@ abbrev decreases-loop : tie.decreases-loop
 decreases-loop text last stop width starts₀ ends₀ whites₀ widths₀ at₀ place₀ starts ends whites widths at place = last - at.0
 
 loop-holds : tie.Need-loop-init invariant-loop decreases-loop
-loop-holds c = search (bytes-start, putting, rules)
+loop-holds c = search (bytes_start, putting, rules)
 
 next-piece-requires : tie.Need-next-piece-requires invariant-loop decreases-loop
-next-piece-requires c κs = search (bytes-start, putting, rules)
+next-piece-requires c κs = search (bytes_start, putting, rules)
 
 add-after : tie.Need-overflow-add-after invariant-loop decreases-loop
-add-after c = search (bytes-start, putting, rules)
+add-after c = search (bytes_start, putting, rules)
 
 add-place : tie.Need-overflow-add-place invariant-loop decreases-loop
 add-place c = omega arith
 
 put-word-requires : tie.Need-put-word-requires invariant-loop decreases-loop
-put-word-requires c κs = search (bytes-start, putting, rules)
+put-word-requires c κs = search (bytes_start, putting, rules)
 
 loop-less : tie.Need-loop-smaller invariant-loop decreases-loop
-loop-less c = search (bytes-start, putting, rules)
+loop-less c = search (bytes_start, putting, rules)
 
 loop-again : tie.Need-loop-preserved invariant-loop decreases-loop
-loop-again c = search (bytes-start, putting, rules)
+loop-again c = search (bytes_start, putting, rules)
 
 same_length : tie.Need-same-length invariant-loop decreases-loop
 same_length c = omega arith
@@ -50,7 +50,7 @@ same-length-4 c = omega arith
 
 returns : tie.Need-returns invariant-loop decreases-loop
 returns c =
-    let w = putting-end c.before.before.loop.invariant c.if1.false in
+    let w = putting_end c.before.before.loop.invariant c.if1.false in
     (w.starts, (w.ends, (w.whites, w.widths)))
 
 pub write-pieces-spec : {M : Type 1} → statement M

@@ -1,39 +1,39 @@
 -- `word_answer_of`: by the cases of what `word_from` answers.
-use Rattle.pieces.specs.Lists.{wordAnswerOf}
-use Rattle.pieces.proofs.Cases.{word-answer-of}
+use Rattle.pieces.specs.Lists.{word_answer_of}
+use Rattle.pieces.proofs.Cases.{word_answer_of_lem}
 use borrow.Author.Rules.{rules}
 use Rattle.pieces.proofs.word_answer_of.Statement.{statement}
 use Rattle.pieces.proofs.word_answer_of.Tie as tie
 
 enum_told : tie.Need-enum-told
-enum_told c = search (word-answer-of, rules)
+enum_told c = search (word_answer_of_lem, rules)
 
 done-requires : tie.Need-done-requires
-done-requires c κs = search (word-answer-of, rules)
+done-requires c κs = search (word_answer_of_lem, rules)
 
 enum-known-w : tie.Need-enum-known-w
-enum-known-w c = search (word-answer-of, rules)
+enum-known-w c = search (word_answer_of_lem, rules)
 
 refused-requires : tie.Need-refused-requires
-refused-requires c κs = search (word-answer-of, rules)
+refused-requires c κs = search (word_answer_of_lem, rules)
 
 enum-known-w-2 : tie.Need-enum-known-w-2
-enum-known-w-2 c = search (word-answer-of, rules)
+enum-known-w-2 c = search (word_answer_of_lem, rules)
 
 refused-requires-2 : tie.Need-refused-requires-2
-refused-requires-2 c κs = search (word-answer-of, rules)
+refused-requires-2 c κs = search (word_answer_of_lem, rules)
 
 returns : tie.Need-returns
-unfolding wordAnswerOf
-returns c = search (word-answer-of, rules)
+unfolding word_answer_of
+returns c = search (word_answer_of_lem, rules)
 
 returns-2 : tie.Need-returns-2
-unfolding wordAnswerOf
-returns-2 c = search (word-answer-of, rules)
+unfolding word_answer_of
+returns-2 c = search (word_answer_of_lem, rules)
 
 returns-3 : tie.Need-returns-3
-unfolding wordAnswerOf
-returns-3 c = search (word-answer-of, rules)
+unfolding word_answer_of
+returns-3 c = search (word_answer_of_lem, rules)
 
 pub word-answer-of-spec : {M : Type 1} → statement M
 word-answer-of-spec =

@@ -2,8 +2,8 @@
 use Prim.Native.Nat.{◌-◌}
 use native.Mathlib.Omega.{arith}
 use Rattle.logic.specs.Flat.{alone}
-use Rattle.logic.proofs.Stored.{flat-alone}
-use Rattle.pieces.proofs.Listing.{Putting, putting-end, putting}
+use Rattle.logic.proofs.Stored.{flat_alone}
+use Rattle.pieces.proofs.Listing.{Putting, putting_end, putting}
 use borrow.Author.Rules.{rules}
 use Rattle.pieces.proofs.write_pieces.Statement.{statement}
 use Rattle.pieces.proofs.write_pieces.Tie as tie
@@ -50,8 +50,8 @@ same-length-4 c = omega arith
 
 returns : tie.Need-returns invariant-loop decreases-loop
 returns c =
-    let w = putting-end c.before.before.loop.invariant c.if1.false in
-    (rw flat-alone at w.starts, (rw flat-alone at w.ends, (rw flat-alone at w.whites, rw flat-alone at w.widths)))
+    let w = putting_end c.before.before.loop.invariant c.if1.false in
+    (rw flat_alone at w.starts, (rw flat_alone at w.ends, (rw flat_alone at w.whites, rw flat_alone at w.widths)))
 
 pub write-pieces-spec : {M : Type 1} → statement M
 write-pieces-spec =

@@ -122,8 +122,8 @@ module _ {M : Type 1} {𝓤 : Ura M} (𝓛 : Logic 𝓤) (mem : Memory → SProp
       frame ! $ use1 𝓛 (‵ Own ⊛ ‵ Own) ((LL.copy D (T'.the_copy (named_lft 1 0 tt (κ, tt))) 𝓛).twice d (mach ∷ [])) $ split ! $ nothing ! $ move ! (1 ∷ 0 ∷ []) $ fjoin ! $ frame ! $
       owned ! O.the_row (Is O.the_row) (LL.makes O.the_type O'.the_plain 𝓛) n _ ok $ move ! (1 ∷ 0 ∷ []) $ by ! (own_put 𝓛 D L 1 vd n mach)
 
-  next-is : (r : Turn) (u : Val) → Is S.the_row r (u ∷ []) → Is O.the_row r.next (O'.lowered r.next ∷ [])
-  next-is r u is = (LL.owed S.the_type S'.the_laws r _ is).1.0
+  next_is : (r : Turn) (u : Val) → Is S.the_row r (u ∷ []) → Is O.the_row r.next (O'.lowered r.next ∷ [])
+  next_is r u is = (LL.owed S.the_type S'.the_laws r _ is).1.0
 
   module _ (C : Calls 𝓤 H) (Λ : Loops 𝓤 H) (fm : FmC 𝓤 H 𝓛.laws C) (known : Triple 𝓤 (C #reader·look) (Look 𝓛 mem run)) where
     walk : Is (B (κ, tt)) d (mach ∷ []) → ent 𝓤 (on_entry 𝓛 go_on.signature (κ, tt) (q, tt) (d, tt) (mach ∷ [], tt)) (WpFn 𝓤 H C Λ code.function (mach ∷ []) Post)
@@ -141,10 +141,10 @@ module _ {M : Type 1} {𝓤 : Ura M} (𝓛 : Logic 𝓤) (mem : Memory → SProp
         land ! (from ! (stop !)) (init ! 7 refl ((LL.lawful S.the_type S'.the_laws 𝓛).typed r _ is).0) $
         rewrite ! 7 (λ (v : Val). ‵ (fat full_share S'.mir l₂ 0 v)) (ap only ((S'.lowers).val_is r _ is)) refl $
         assigns ! (of_opd ! (load ! (from ! (fld ! refl (stop !))) (look_in ! 9 (sub ! 0 refl (whole !))))) (from ! (stop !)) (init ! 3 refl (tt, wt.1.0)) $
-        assigns ! (agg ! (and_then ! (load ! (from ! (stop !)) (look ! 3 refl)) (and_then ! (load ! (from ! (fld ! refl (stop !))) (look_in ! 7 (sub ! 1 refl (whole !)))) (no_more !)))) (from ! (stop !)) (init ! 11 refl (tt, (wt.1.0, (((LL.lawful O.the_type O'.the_laws 𝓛).typed r.next _ (next-is r u is)).0.1, tt)))) $
+        assigns ! (agg ! (and_then ! (load ! (from ! (stop !)) (look ! 3 refl)) (and_then ! (load ! (from ! (fld ! refl (stop !))) (look_in ! 7 (sub ! 1 refl (whole !)))) (no_more !)))) (from ! (stop !)) (init ! 11 refl (tt, (wt.1.0, (((LL.lawful O.the_type O'.the_laws 𝓛).typed r.next _ (next_is r u is)).0.1, tt)))) $
         returns ! (look ! 11 refl) $ forget ! 3 refl $ forget ! 5 refl $ forget ! 7 refl $ forget ! 9 refl $ forget ! 11 refl $
         move ! (11 ∷ 12 ∷ []) $ free1 ! $ move ! (9 ∷ 10 ∷ []) $ free1 ! $ move ! (7 ∷ 8 ∷ []) $ free1 ! $ move ! (5 ∷ 6 ∷ []) $ free1 ! $ move ! (3 ∷ 4 ∷ []) $ free1 ! $ free0 ! $ drop ! $
-        by ! (exits r.next (next-is r u is) (ap (λ (t : Turn). t.next) e)))))))))))
+        by ! (exits r.next (next_is r u is) (ap (λ (t : Turn). t.next) e)))))))))))
 
 module _ {M : Type 1} {𝓤 : Ura M} (𝓛 : Logic 𝓤) (mem : Memory → SProp 𝓤) (run : Routine → Fun 𝓤) where
   open 𝓛 use {H}

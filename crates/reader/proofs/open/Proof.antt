@@ -38,7 +38,7 @@ use denote.Triple.Spec.{Meets, triple_of}
 use denote.Triple.Table.{entered, cited}
 use denote.Triple.Walked.{says, Stays, stay_none_slice, walk_of, Goes-none_slice, Walks, ends_at, walked, walk_Meets}
 use denote.Exit.{yes}
-use Rattle.reader.specs.Reader.{openingOf}
+use Rattle.reader.specs.Reader.{opening_of}
 use Rattle.units.specs.declared.Offset.{Offset}
 use Rattle.units.specs.contracts.Offset as O
 use Rattle.units.proofs.Offset.TheLaws as O'
@@ -96,10 +96,10 @@ module _ {M : Type 1} {𝓤 : Ura M} (𝓛 : Logic 𝓤) (mem : Memory → SProp
       move ! (1 ∷ []) $ fsplit ! $ use1 𝓛 (‵ Own ⊛ ‵ Own) ((shr_slice_copy 𝓛 (named 0) κ u8).twice s (v ∷ [])) $ split ! $
       move ! (0 ∷ 2 ∷ []) $ fjoin ! $ move ! (2 ∷ 0 ∷ []) $ use2 𝓛 (raw ((OpenAt 𝓛 mem run).pre to)) (qed 𝓛 ((‵ (flft κ q) ⊛ ‵ ftrue) ∷ ‵ (owns (ShrSlice (named 0) κ u8 ∷ []) (s, tt) at) ∷ []) ∵ join ! $ frame ! $ done !) $ frame ! $ done !
 
-  said : (r : Opening) → ent 𝓤 (ensured 𝓛 open_at.ended (open_at.clauses 𝓛 mem run) (κ, tt) (s, tt) tt r) (fact 𝓤 (r ≡ openingOf s.now))
-  said r = ex_e 𝓤 _ (λ ws. snd∗ 𝓤 (sem 𝓛 (lasts open_at.ended (κ, tt) (s, tt) ws)) (fact 𝓤 (r ≡ openingOf s.now)))
+  said : (r : Opening) → ent 𝓤 (ensured 𝓛 open_at.ended (open_at.clauses 𝓛 mem run) (κ, tt) (s, tt) tt r) (fact 𝓤 (r ≡ opening_of s.now))
+  said r = ex_e 𝓤 _ (λ ws. snd∗ 𝓤 (sem 𝓛 (lasts open_at.ended (κ, tt) (s, tt) ws)) (fact 𝓤 (r ≡ opening_of s.now)))
 
-  exits : (r : Offset) → Is O.the_row r (O'.lowered r ∷ []) → r ≡ (openingOf s.now).at → ent 𝓤 (⋆ 𝓛 ((‵ (flft κ q) ⊛ ‵ ftrue) ∷ ‵ Own ∷ [])) (Post (T'.lowered (made r)))
+  exits : (r : Offset) → Is O.the_row r (O'.lowered r ∷ []) → r ≡ (opening_of s.now).at → ent 𝓤 (⋆ 𝓛 ((‵ (flft κ q) ⊛ ‵ ftrue) ∷ ‵ Own ∷ [])) (Post (T'.lowered (made r)))
   exits r fits e =
       qed 𝓛 ((‵ (flft κ q) ⊛ ‵ ftrue) ∷ ‵ Own ∷ []) ∵
       suffices ! _ (ends_at 𝓛 opn.ended stayed (opn.clauses 𝓛 mem run) (((κ, tt), (q, tt), tt, (s, tt), at), tt) (T'.lowered (made r)) (made r) (tt, tt) (tt, tt)) $ says ! (refl, e) $
@@ -118,7 +118,7 @@ module _ {M : Type 1} {𝓤 : Ura M} (𝓛 : Logic 𝓤) (mem : Memory → SProp
         move ! (6 ∷ []) $ use1 𝓛 (raw ((OpenAt 𝓛 mem run).pre to) ⊛ ‵ Own) goes $ split ! $
         calls_at ! fm (OpenAt 𝓛 mem run) known to (and_then ! (load ! (from ! (stop !)) (look ! 4 refl)) (no_more !)) (λ w.
         use1 𝓛 (later (some (λ (r : Opening). ((‵ (flft κ q) ⊛ ‵ ftrue) ⊛ ‵ ((S.the_row).own_val r (w ∷ []))) ⊛ raw (ensured 𝓛 open_at.ended (open_at.clauses 𝓛 mem run) (κ, tt) (s, tt) tt r)))) (id⊢ 𝓤 _) $ await ! tt $ pick ! (λ r.
-        split ! $ move ! (1 ∷ []) $ use1 𝓛 (raw (fact 𝓤 (r ≡ openingOf s.now))) (said r) $ heard ! (r ≡ openingOf s.now) (λ e. split ! $ move ! (1 ∷ []) $
+        split ! $ move ! (1 ∷ []) $ use1 𝓛 (raw (fact 𝓤 (r ≡ opening_of s.now))) (said r) $ heard ! (r ≡ opening_of s.now) (λ e. split ! $ move ! (1 ∷ []) $
         -- [what the result owns; the token; what s owns; room for _2; …; _1; …; room for _0; …]
         peeks ! S.the_row (Is S.the_row) (shows 𝓛 S.the_row) r (w ∷ []) (λ is.
         land ! (from ! (stop !)) (init ! 3 refl ((LL.lawful S.the_type S'.the_laws 𝓛).typed r _ is).0) $ rewrite ! 3 (λ (u : Val). ‵ (fat full_share S'.mir l₂ 0 u)) (ap only ((S'.lowers).val_is r _ is)) refl $

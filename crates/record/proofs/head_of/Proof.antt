@@ -1,5 +1,5 @@
 -- `head_of`: one law of `heading` for each way through it.
-use Rattle.record.proofs.Heads.{heading, head-job}
+use Rattle.record.proofs.Heads.{heading, head_job}
 use borrow.Author.Rules.{rules}
 use Rattle.record.proofs.head_of.Statement.{statement}
 use Rattle.record.proofs.head_of.Tie as tie
@@ -47,7 +47,7 @@ number-of-requires : tie.Need-number-of-requires
 number-of-requires c κs = search rules
 
 returns-5 : tie.Need-returns-5
-returns-5 c = let job = c.before.before.before.before.before.before in head-job _ job.is-job.ensures (search rules) (search rules) (search rules)
+returns-5 c = let job = c.before.before.before.before.before.before in head_job _ job.is-job.ensures (search rules) (search rules) (search rules)
 
 pub head-of-spec : {M : Type 1} → statement M
 head-of-spec =

@@ -1,5 +1,5 @@
 -- `put_sentence` is safe: the line has room, and what was said is lent.
-use Rattle.saying.proofs.Laws.{said-taken}
+use Rattle.saying.proofs.Laws.{said_taken}
 use borrow.Author.Rules.{rules}
 use Rattle.refusal_list.proofs.put_sentence.Statement.{statement}
 use Rattle.refusal_list.proofs.put_sentence.Tie as tie
@@ -32,7 +32,7 @@ array-share-prefix-line : tie.Need-array-share-prefix-line
 array-share-prefix-line c = search rules
 
 slice-aggregate-write-all : tie.Need-slice-aggregate-write-all
-slice-aggregate-write-all c = said-taken c.before.before.say-byte2.ensures
+slice-aggregate-write-all c = said_taken c.before.before.say-byte2.ensures
 
 write-all-requires : tie.Need-write-all-requires
 write-all-requires c κs = search rules

@@ -1,7 +1,7 @@
 -- `refusal_line`: its parts, one after the other.
 use native.Mathlib.Omega.{arith}
-use Rattle.saying.proofs.Laws.{said-then}
-use Rattle.refusals.specs.Lines.{refusalLine}
+use Rattle.saying.proofs.Laws.{said_then}
+use Rattle.refusals.specs.Lines.{refusal_line}
 use borrow.Author.Rules.{rules}
 use Rattle.refusals.proofs.refusal_line.Statement.{statement}
 use Rattle.refusals.proofs.refusal_line.Tie as tie
@@ -37,7 +37,7 @@ same_length : tie.Need-same-length
 same_length c = search rules
 
 returns : tie.Need-returns
-unfolding refusalLine
+unfolding refusal_line
 returns c =
     let sixth = c.before.before in
     let fifth = sixth.before.before.before.before in
@@ -45,7 +45,7 @@ returns c =
     let third = fourth.before.before.before.before in
     let second = third.before.before.before.before.before in
     let first = second.before.before.before.before in (
-      said-then first.say-named.ensures.0 (said-then second.say-place.ensures.0 (said-then third.say.ensures (said-then fourth.say-sentence.ensures.0 (said-then fifth.say-parting.ensures.0 sixth.say-byte.ensures)))),
+      said_then first.say-named.ensures.0 (said_then second.say-place.ensures.0 (said_then third.say.ensures (said_then fourth.say-sentence.ensures.0 (said_then fifth.say-parting.ensures.0 sixth.say-byte.ensures)))),
       omega (
         arith,
         first.say-named.ensures.1,

@@ -1,5 +1,5 @@
 -- `say_columns`: its two parts, one after the other.
-use Rattle.saying.proofs.Laws.{said-then}
+use Rattle.saying.proofs.Laws.{said_then}
 use borrow.Author.Rules.{rules}
 use Rattle.refusals.proofs.say_columns.Statement.{statement}
 use Rattle.refusals.proofs.say_columns.Tie as tie
@@ -20,7 +20,7 @@ returns : tie.Need-returns
 returns c =
     let second = c.before.before in
     let first = second.before.before.before.before.before in
-    (said-then first.say-named.ensures.0 second.say.ensures, search rules)
+    (said_then first.say-named.ensures.0 second.say.ensures, search rules)
 
 pub say-columns-spec : {M : Type 1} → statement M
 say-columns-spec =

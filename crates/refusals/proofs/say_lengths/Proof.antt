@@ -1,5 +1,5 @@
 -- `say_lengths`: its three parts, one after the other.
-use Rattle.saying.proofs.Laws.{said-then}
+use Rattle.saying.proofs.Laws.{said_then}
 use borrow.Author.Rules.{rules}
 use Rattle.refusals.proofs.say_lengths.Statement.{statement}
 use Rattle.refusals.proofs.say_lengths.Tie as tie
@@ -30,7 +30,7 @@ returns c =
     let third = c.before.before in
     let second = third.before.before.before.before.before in
     let first = second.before.before.before.before.before in
-    (said-then first.say-named.ensures.0 (said-then second.say-named2.ensures.0 third.say.ensures), search rules)
+    (said_then first.say-named.ensures.0 (said_then second.say-named2.ensures.0 third.say.ensures), search rules)
 
 pub say-lengths-spec : {M : Type 1} → statement M
 say-lengths-spec =

@@ -1,11 +1,11 @@
 -- `say_parting`: a law for each way through it.
-use Rattle.refusals.proofs.Telling.{no-parting, parting-said}
+use Rattle.refusals.proofs.Telling.{no_parting, parting_said}
 use borrow.Author.Rules.{rules}
 use Rattle.refusals.proofs.say_parting.Statement.{statement}
 use Rattle.refusals.proofs.say_parting.Tie as tie
 
 returns : tie.Need-returns
-returns c = (no-parting _ _ _ c.if1.true (search rules), search rules)
+returns c = (no_parting _ _ _ c.if1.true (search rules), search rules)
 
 parts-at-requires : tie.Need-parts-at-requires
 parts-at-requires c κs = search rules
@@ -23,7 +23,7 @@ same_length : tie.Need-same-length
 same_length c = search rules
 
 returns-2 : tie.Need-returns-2
-returns-2 c = search (parting-said, rules)
+returns-2 c = search (parting_said, rules)
 
 pub say-parting-spec : {M : Type 1} → statement M
 say-parting-spec =

@@ -1,6 +1,6 @@
 -- `say_sentence`: each number has its row.
 use mathlib.Core.Path.{refl}
-use Rattle.refusals.proofs.Telling.{by_number, past-table, past-rows}
+use Rattle.refusals.proofs.Telling.{by_number, past_table, past_rows}
 use borrow.Author.Rules.{rules}
 use Rattle.refusals.proofs.say_sentence.Statement.{statement}
 use Rattle.refusals.proofs.say_sentence.Tie as tie
@@ -180,7 +180,7 @@ same-length-15 : tie.Need-same-length-15
 same-length-15 c = search rules
 
 returns-15 : tie.Need-returns-15
-returns-15 c = (past-table _ _ _ _ (past-rows _ 14 c.before.before.before.before.before.match.rest) (search rules), search rules)
+returns-15 c = (past_table _ _ _ _ (past_rows _ 14 c.before.before.before.before.before.match.rest) (search rules), search rules)
 
 pub say-sentence-spec : {M : Type 1} → statement M
 say-sentence-spec =

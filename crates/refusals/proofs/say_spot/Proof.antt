@@ -1,5 +1,5 @@
 -- `say_spot`: its four parts, one after the other, with the line and column that were found.
-use Rattle.refusals.proofs.Telling.{spot-said}
+use Rattle.refusals.proofs.Telling.{spot_said}
 use borrow.Author.Rules.{rules}
 use Rattle.refusals.proofs.say_spot.Statement.{statement}
 use Rattle.refusals.proofs.say_spot.Tie as tie
@@ -40,7 +40,7 @@ returns c =
     let third = fourth.before.before.before.before.before in
     let second = third.before.before.before.before.before in
     let first = second.before.before.before.before.before in
-    (spot-said _ _ _ first.say-named.ensures.0 second.say-named2.ensures.0 third.say-named3.ensures.0 fourth.say.ensures (search rules), search rules)
+    (spot_said _ _ _ first.say-named.ensures.0 second.say-named2.ensures.0 third.say-named3.ensures.0 fourth.say.ensures (search rules), search rules)
 
 pub say-spot-spec : {M : Type 1} → statement M
 say-spot-spec =

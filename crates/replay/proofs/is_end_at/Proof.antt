@@ -1,5 +1,5 @@
 -- `is_end_at`: the two numbers that are read.
-use Rattle.replay.proofs.Same.{numbers-same}
+use Rattle.replay.proofs.Same.{numbers_same}
 use borrow.Author.Rules.{rules}
 use Rattle.replay.proofs.is_end_at.Statement.{statement}
 use Rattle.replay.proofs.is_end_at.Tie as tie
@@ -11,7 +11,7 @@ number-at-requires : tie.Need-number-at-requires
 number-at-requires c κs = search rules
 
 returns : tie.Need-returns
-returns c = search (numbers-same, rules)
+returns c = search (numbers_same, rules)
 
 pub is-end-at-spec : {M : Type 1} → statement M
 is-end-at-spec = tie.close (tie.spec get16-requires number-at-requires returns)

@@ -1,5 +1,5 @@
 -- `is_number_at`: the two numbers that are read.
-use Rattle.replay.proofs.Same.{numbers-same}
+use Rattle.replay.proofs.Same.{numbers_same}
 use borrow.Author.Rules.{rules}
 use Rattle.replay.proofs.is_number_at.Statement.{statement}
 use Rattle.replay.proofs.is_number_at.Tie as tie
@@ -17,7 +17,7 @@ size-requires : tie.Need-size-requires
 size-requires c κs = search rules
 
 returns : tie.Need-returns
-returns c = search (numbers-same, rules)
+returns c = search (numbers_same, rules)
 
 pub is-number-at-spec : {M : Type 1} → statement M
 is-number-at-spec =

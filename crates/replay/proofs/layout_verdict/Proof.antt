@@ -1,5 +1,5 @@
 -- `layout_verdict`: lists of the most places are lent.
-use Rattle.replay.specs.Replay.{layoutVerdict}
+use Rattle.replay.specs.Replay.{layout_verdict}
 use borrow.Author.Rules.{rules}
 use Rattle.replay.proofs.layout_verdict.Statement.{statement}
 use Rattle.replay.proofs.layout_verdict.Tie as tie
@@ -20,7 +20,7 @@ asked-verdict-requires : tie.Need-asked-verdict-requires
 asked-verdict-requires c κs = search rules
 
 returns : tie.Need-returns
-unfolding layoutVerdict
+unfolding layout_verdict
 returns c = search rules
 
 pub layout-verdict-spec : {M : Type 1} → statement M

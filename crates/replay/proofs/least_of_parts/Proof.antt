@@ -1,5 +1,5 @@
 -- `least_of_parts`: one law of `leasts` for each answer.
-use Rattle.replay.proofs.Layouts.{leasts, least-place, least-inside, least-lines}
+use Rattle.replay.proofs.Layouts.{leasts, least_place, least_inside, least_lines}
 use borrow.Author.Rules.{rules}
 use Rattle.replay.proofs.least_of_parts.Statement.{statement}
 use Rattle.replay.proofs.least_of_parts.Tie as tie
@@ -74,13 +74,13 @@ cost-at-requires : tie.Need-cost-at-requires
 cost-at-requires c κs =
     let w = c.before.before.before.before.before.before.before.before.before.before in
     let s = w.before.before.before.before.before.before.before.before.before.before.before.before.before.args in
-    least-place s.n s.numbers.now s.p s.stored.now (search rules) w.wrap-optimal-fit.ensures {lines = c.before.before.laid.given.0.0} (search rules)
+    least_place s.n s.numbers.now s.p s.stored.now (search rules) w.wrap-optimal-fit.ensures {lines = c.before.before.laid.given.0.0} (search rules)
 
 weigh-requires : tie.Need-weigh-requires
 weigh-requires c κs =
     let w = c.before.before.before.before.before.before.before.before.before.before.before.before in
     let s = w.before.before.before.before.before.before.before.before.before.before.before.before.before.args in
-    least-inside s.n s.numbers.now s.p s.stored.now (search rules) w.wrap-optimal-fit.ensures (search rules)
+    least_inside s.n s.numbers.now s.p s.stored.now (search rules) w.wrap-optimal-fit.ensures (search rules)
 
 enum_told : tie.Need-enum-told
 enum_told c = search rules
@@ -113,7 +113,7 @@ returns : tie.Need-returns
 returns c =
     let w = c.before.before.before.before.before.before.before.before.before.before.before.before.before in
     let s = w.before.before.before.before.before.before.before.before.before.before.before.before.before.args in
-    least-lines s.n s.numbers.now s.p s.stored.now (search rules) w.wrap-optimal-fit.ensures {lines = c.before.before.before.before.before.laid.given.0.0} (search rules) c.before.before.cost-at.ensures c.weigh.ensures
+    least_lines s.n s.numbers.now s.p s.stored.now (search rules) w.wrap-optimal-fit.ensures {lines = c.before.before.before.before.before.laid.given.0.0} (search rules) c.before.before.cost_at.ensures c.weigh.ensures
 
 same-length-4 : tie.Need-same-length-4
 same-length-4 c = search rules

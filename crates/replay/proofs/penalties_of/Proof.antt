@@ -1,5 +1,5 @@
 -- `penalties_of`: five numbers, one after the other.
-use Rattle.replay.proofs.Layouts.{penalties-read}
+use Rattle.replay.proofs.Layouts.{penalties_read}
 use borrow.Author.Rules.{rules}
 use Rattle.replay.proofs.penalties_of.Statement.{statement}
 use Rattle.replay.proofs.penalties_of.Tie as tie
@@ -20,7 +20,7 @@ long-of-requires-5 : tie.Need-long-of-requires-5
 long-of-requires-5 c κs = search rules
 
 returns : tie.Need-returns
-returns c = search (penalties-read, rules)
+returns c = search (penalties_read, rules)
 
 pub penalties-of-spec : {M : Type 1} → statement M
 penalties-of-spec =

@@ -1,13 +1,13 @@
 -- `say_dropped`: nothing, or what is dropped after its name.
 use mathlib.Core.Path.{refl}
 use borrow.Author.Tests.{not-true}
-use Rattle.shown.proofs.Rows.{dropped-none, dropping}
+use Rattle.shown.proofs.Rows.{dropped_none, dropping}
 use borrow.Author.Rules.{rules}
 use Rattle.shown.proofs.say_dropped.Statement.{statement}
 use Rattle.shown.proofs.say_dropped.Tie as tie
 
 returns : tie.Need-returns
-returns c = dropped-none _ _ (search (not-true, rules)) (search rules) refl refl
+returns c = dropped_none _ _ (search (not-true, rules)) (search rules) refl refl
 
 slice-aggregate-say : tie.Need-slice-aggregate-say
 slice-aggregate-say c = search rules

@@ -1,12 +1,12 @@
 -- `say_first`: nothing, or the number with its name.
 use mathlib.Core.Path.{refl}
-use Rattle.shown.proofs.Tallies.{first-none, tallies}
+use Rattle.shown.proofs.Tallies.{first_none, tallies}
 use borrow.Author.Rules.{rules}
 use Rattle.shown.proofs.say_first.Statement.{statement}
 use Rattle.shown.proofs.say_first.Tie as tie
 
 returns : tie.Need-returns
-returns c = (first-none _ (search rules) (search rules) refl refl, search rules)
+returns c = (first_none _ (search rules) (search rules) refl refl, search rules)
 
 slice-aggregate-say-named : tie.Need-slice-aggregate-say-named
 slice-aggregate-say-named c = search rules

@@ -3,13 +3,13 @@ use mathlib.Core.Path.{◌≡◌}
 use Prim.Native.Nat.{◌-◌, ◌+◌, ◌*◌, ◌≤◌}
 use native.Mathlib.Omega.{arith}
 use lib.ListN.{length}
-use Rattle.slips.specs.Rooms.{argumentRoom, blockRoom}
+use Rattle.slips.specs.Rooms.{argument_room, block_room}
 use borrow.Author.Rules.{rules}
 use Rattle.slips.proofs.gather.Statement.{statement}
 use Rattle.slips.proofs.gather.Tie as tie
 
 abbrev invariant-loop : tie.invariant-loop
-invariant-loop block₀ first count at₀ k₀ block at k = (length block ≡ blockRoom) × (at ≤ k * (argumentRoom + 1)) × (first ≤ 2) × (k ≤ 6)
+invariant-loop block₀ first count at₀ k₀ block at k = (length block ≡ block_room) × (at ≤ k * (argument_room + 1)) × (first ≤ 2) × (k ≤ 6)
 
 abbrev decreases-loop : tie.decreases-loop
 decreases-loop block₀ first count at₀ k₀ block at k = 6 - k

@@ -3,13 +3,13 @@ use mathlib.Core.Path.{◌≡◌}
 use Prim.Native.Nat.{◌-◌, ◌≤◌}
 use native.Mathlib.Omega.{arith}
 use lib.ListN.{length, length-take}
-use Rattle.slips.specs.Rooms.{textRoom, lineRoom}
+use Rattle.slips.specs.Rooms.{text_room, line_room}
 use borrow.Author.Rules.{rules}
 use Rattle.slips.proofs.put_each.Statement.{statement}
 use Rattle.slips.proofs.put_each.Tie as tie
 
 abbrev invariant-loop : tie.invariant-loop
-invariant-loop line₀ text output from₀ count₀ line from count = (length line ≡ lineRoom) × (length text ≤ textRoom)
+invariant-loop line₀ text output from₀ count₀ line from count = (length line ≡ line_room) × (length text ≤ text_room)
 
 abbrev decreases-loop : tie.decreases-loop
 decreases-loop line₀ text output from₀ count₀ line from count = length text - count

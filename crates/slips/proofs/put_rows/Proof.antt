@@ -3,14 +3,14 @@ use mathlib.Core.Path.{◌≡◌}
 use Prim.Native.Nat.{◌-◌}
 use native.Mathlib.Omega.{arith}
 use lib.ListN.{length, length-take}
-use Rattle.slips.specs.Rooms.{lineRoom}
+use Rattle.slips.specs.Rooms.{line_room}
 use Rattle.slips.proofs.Showing.{Putting, putting}
 use borrow.Author.Rules.{rules}
 use Rattle.slips.proofs.put_rows.Statement.{statement}
 use Rattle.slips.proofs.put_rows.Tie as tie
 
 abbrev invariant-loop : tie.invariant-loop
-invariant-loop line₀ text width output from₀ tally₀ line from tally = (length line ≡ lineRoom) × Putting text width from tally
+invariant-loop line₀ text width output from₀ tally₀ line from tally = (length line ≡ line_room) × Putting text width from tally
 
 abbrev decreases-loop : tie.decreases-loop
 decreases-loop line₀ text width output from₀ tally₀ line from tally = length text - from

@@ -1,5 +1,5 @@
 -- `put_shown`: what is not refused is shown.
-use Rattle.slips.proofs.Showing.{show-shows}
+use Rattle.slips.proofs.Showing.{show_shows}
 use borrow.Author.Rules.{rules}
 use Rattle.slips.proofs.put_shown.Statement.{statement}
 use Rattle.slips.proofs.put_shown.Tie as tie
@@ -17,7 +17,7 @@ returns : tie.Need-returns
 returns c = search rules
 
 put-slip-requires : tie.Need-put-slip-requires
-put-slip-requires c κs = search (show-shows, rules)
+put-slip-requires c κs = search (show_shows, rules)
 
 same-length-2 : tie.Need-same-length-2
 same-length-2 c = search rules

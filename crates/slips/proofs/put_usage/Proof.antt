@@ -3,13 +3,13 @@ use mathlib.Core.Path.{◌≡◌}
 use Prim.Native.Nat.{◌-◌}
 use native.Mathlib.Omega.{arith}
 use lib.ListN.{length, length-take}
-use Rattle.slips.specs.Rooms.{lineRoom}
+use Rattle.slips.specs.Rooms.{line_room}
 use borrow.Author.Rules.{rules}
 use Rattle.slips.proofs.put_usage.Statement.{statement}
 use Rattle.slips.proofs.put_usage.Tie as tie
 
 abbrev invariant-loop : tie.invariant-loop
-invariant-loop line₀ output end k₀ line k = length line ≡ lineRoom
+invariant-loop line₀ output end k₀ line k = length line ≡ line_room
 
 abbrev decreases-loop : tie.decreases-loop
 decreases-loop line₀ output end k₀ line k = 11 - k

@@ -1,5 +1,5 @@
 -- `named_line`: its two parts, one after the other.
-use Rattle.saying.proofs.Laws.{said-then}
+use Rattle.saying.proofs.Laws.{said_then}
 use borrow.Author.Rules.{rules}
 use Rattle.told.proofs.named_line.Statement.{statement}
 use Rattle.told.proofs.named_line.Tie as tie
@@ -17,7 +17,7 @@ returns : tie.Need-returns
 returns c =
     let second = c.before.before in
     let first = second.before.before.before.before in
-    said-then first.say-named.ensures.0 second.say-byte.ensures
+    said_then first.say-named.ensures.0 second.say-byte.ensures
 
 pub named-line-spec : {M : Type 1} → statement M
 named-line-spec = tie.close (tie.spec say-named-requires say-byte-requires same_length returns)

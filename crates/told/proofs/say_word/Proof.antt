@@ -1,5 +1,5 @@
 -- `say_word`: its five parts, one after the other.
-use Rattle.saying.proofs.Laws.{said-then}
+use Rattle.saying.proofs.Laws.{said_then}
 use borrow.Author.Rules.{rules}
 use Rattle.told.proofs.say_word.Statement.{statement}
 use Rattle.told.proofs.say_word.Tie as tie
@@ -38,7 +38,7 @@ returns c =
     let third = fourth.before.before.before.before.before in
     let second = third.before.before.before.before.before in
     let first = second.before.before.before.before.before in
-    said-then first.say-number.ensures.0 (said-then second.say-named.ensures.0 (said-then third.say-named2.ensures.0 (said-then fourth.say-named3.ensures.0 fifth.say-byte.ensures)))
+    said_then first.say-number.ensures.0 (said_then second.say-named.ensures.0 (said_then third.say-named2.ensures.0 (said_then fourth.say-named3.ensures.0 fifth.say-byte.ensures)))
 
 pub say-word-spec : {M : Type 1} → statement M
 say-word-spec =

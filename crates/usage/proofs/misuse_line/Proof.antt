@@ -1,6 +1,6 @@
 -- `misuse_line`: three things, one after the other.
 use borrow.Author.Rules.{rules}
-use Rattle.usage.proofs.Lines.{misuse-said}
+use Rattle.usage.proofs.Lines.{misuse_said}
 use Rattle.usage.proofs.misuse_line.Statement.{statement}
 use Rattle.usage.proofs.misuse_line.Tie as tie
 
@@ -17,7 +17,7 @@ same_length : tie.Need-same-length
 same_length c = search rules
 
 returns : tie.Need-returns
-returns c = search (misuse-said, rules)
+returns c = search (misuse_said, rules)
 
 pub misuse-line-spec : {M : Type 1} → statement M
 misuse-line-spec =

@@ -1,6 +1,6 @@
 -- `say_wrong`: what is said in each case is what the case's words are.
 use borrow.Author.Rules.{rules}
-use Rattle.usage.proofs.Lines.{wrong-said}
+use Rattle.usage.proofs.Lines.{wrong_said}
 use Rattle.usage.proofs.say_wrong.Statement.{statement}
 use Rattle.usage.proofs.say_wrong.Tie as tie
 
@@ -71,43 +71,43 @@ same_length : tie.Need-same-length
 same_length c = search rules
 
 returns : tie.Need-returns
-returns c = search (wrong-said, rules)
+returns c = search (wrong_said, rules)
 
 same-length-2 : tie.Need-same-length-2
 same-length-2 c = search rules
 
 returns-2 : tie.Need-returns-2
-returns-2 c = search (wrong-said, rules)
+returns-2 c = search (wrong_said, rules)
 
 same-length-3 : tie.Need-same-length-3
 same-length-3 c = search rules
 
 returns-3 : tie.Need-returns-3
-returns-3 c = search (wrong-said, rules)
+returns-3 c = search (wrong_said, rules)
 
 same-length-4 : tie.Need-same-length-4
 same-length-4 c = search rules
 
 returns-4 : tie.Need-returns-4
-returns-4 c = search (wrong-said, rules)
+returns-4 c = search (wrong_said, rules)
 
 same-length-5 : tie.Need-same-length-5
 same-length-5 c = search rules
 
 returns-5 : tie.Need-returns-5
-returns-5 c = search (wrong-said, rules)
+returns-5 c = search (wrong_said, rules)
 
 same-length-6 : tie.Need-same-length-6
 same-length-6 c = search rules
 
 returns-6 : tie.Need-returns-6
-returns-6 c = search (wrong-said, rules)
+returns-6 c = search (wrong_said, rules)
 
 same-length-7 : tie.Need-same-length-7
 same-length-7 c = search rules
 
 returns-7 : tie.Need-returns-7
-returns-7 c = search (wrong-said, rules)
+returns-7 c = search (wrong_said, rules)
 
 pub say-wrong-spec : {M : Type 1} → statement M
 say-wrong-spec =

@@ -1,7 +1,7 @@
 -- `usage_line`: what is said at each number is the line of that number.
 use borrow.Author.Rules.{rules}
-use Rattle.usage.specs.Usage.{usageLine}
-use Rattle.usage.proofs.Lines.{usage-said, usage-none}
+use Rattle.usage.specs.Usage.{usage_line}
+use Rattle.usage.proofs.Lines.{usage_said, usage_none}
 use Rattle.usage.proofs.usage_line.Statement.{statement}
 use Rattle.usage.proofs.usage_line.Tie as tie
 
@@ -75,81 +75,81 @@ same_length : tie.Need-same-length
 same_length c = search rules
 
 returns : tie.Need-returns
-unfolding usageLine
-returns c = search (usage-said, rules)
+unfolding usage_line
+returns c = search (usage_said, rules)
 
 same-length-2 : tie.Need-same-length-2
 same-length-2 c = search rules
 
 returns-2 : tie.Need-returns-2
-unfolding usageLine
-returns-2 c = search (usage-said, rules)
+unfolding usage_line
+returns-2 c = search (usage_said, rules)
 
 same-length-3 : tie.Need-same-length-3
 same-length-3 c = search rules
 
 returns-3 : tie.Need-returns-3
-unfolding usageLine
-returns-3 c = search (usage-said, rules)
+unfolding usage_line
+returns-3 c = search (usage_said, rules)
 
 same-length-4 : tie.Need-same-length-4
 same-length-4 c = search rules
 
 returns-4 : tie.Need-returns-4
-unfolding usageLine
-returns-4 c = search (usage-said, rules)
+unfolding usage_line
+returns-4 c = search (usage_said, rules)
 
 same-length-5 : tie.Need-same-length-5
 same-length-5 c = search rules
 
 returns-5 : tie.Need-returns-5
-unfolding usageLine
-returns-5 c = search (usage-said, rules)
+unfolding usage_line
+returns-5 c = search (usage_said, rules)
 
 same-length-6 : tie.Need-same-length-6
 same-length-6 c = search rules
 
 returns-6 : tie.Need-returns-6
-unfolding usageLine
-returns-6 c = search (usage-said, rules)
+unfolding usage_line
+returns-6 c = search (usage_said, rules)
 
 same-length-7 : tie.Need-same-length-7
 same-length-7 c = search rules
 
 returns-7 : tie.Need-returns-7
-unfolding usageLine
-returns-7 c = search (usage-said, rules)
+unfolding usage_line
+returns-7 c = search (usage_said, rules)
 
 same-length-8 : tie.Need-same-length-8
 same-length-8 c = search rules
 
 returns-8 : tie.Need-returns-8
-unfolding usageLine
-returns-8 c = search (usage-said, rules)
+unfolding usage_line
+returns-8 c = search (usage_said, rules)
 
 same-length-9 : tie.Need-same-length-9
 same-length-9 c = search rules
 
 returns-9 : tie.Need-returns-9
-unfolding usageLine
-returns-9 c = search (usage-said, rules)
+unfolding usage_line
+returns-9 c = search (usage_said, rules)
 
 same-length-10 : tie.Need-same-length-10
 same-length-10 c = search rules
 
 returns-10 : tie.Need-returns-10
-unfolding usageLine
-returns-10 c = search (usage-said, rules)
+unfolding usage_line
+returns-10 c = search (usage_said, rules)
 
 same-length-11 : tie.Need-same-length-11
 same-length-11 c = search rules
 
 returns-11 : tie.Need-returns-11
-unfolding usageLine
-returns-11 c = search (usage-said, rules)
+unfolding usage_line
+returns-11 c = search (usage_said, rules)
 
 returns-12 : tie.Need-returns-12
-returns-12 c = search (usage-none, rules)
+returns-12 c = search (usage_none, rules)
 
 pub usage-line-spec : {M : Type 1} → statement M
 usage-line-spec =

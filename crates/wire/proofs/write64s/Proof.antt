@@ -2,7 +2,7 @@
 use Prim.Native.Nat.{◌-◌}
 use mathlib.Core.Path.{refl}
 use Rattle.wire.specs.Wire.{be64}
-use Rattle.wire.proofs.Copying.{Copying, copying-start, copying-step, copying-end}
+use Rattle.wire.proofs.Copying.{Copying, copying_start, copying_step, copying_end}
 use borrow.Author.Rules.{rules}
 use Rattle.wire.proofs.write64s.Statement.{statement}
 use Rattle.wire.proofs.write64s.Tie as tie
@@ -14,7 +14,7 @@ abbrev decreases-loop : tie.decreases-loop
 decreases-loop list n out₀ i₀ out i = n - i
 
 loop-holds : tie.Need-loop-init invariant-loop decreases-loop
-loop-holds c = let a = c.before.before.args in copying-start be64 8 (λ v. refl) a.list.now a.n a.out.now (search rules) (search rules)
+loop-holds c = let a = c.before.before.args in copying_start be64 8 (λ v. refl) a.list.now a.n a.out.now (search rules) (search rules)
 
 mul-put64 : tie.Need-overflow-mul-put64 invariant-loop decreases-loop
 mul-put64 c = search rules
@@ -35,13 +35,13 @@ loop-less : tie.Need-loop-smaller invariant-loop decreases-loop
 loop-less c = search rules
 
 loop-again : tie.Need-loop-preserved invariant-loop decreases-loop
-loop-again c = copying-step c.before.before.before.before.before.before.loop.invariant (search rules) refl c.before.before.put64.ensures
+loop-again c = copying_step c.before.before.before.before.before.before.loop.invariant (search rules) refl c.before.before.put64.ensures
 
 same_length : tie.Need-same-length invariant-loop decreases-loop
 same_length c = search rules
 
 returns : tie.Need-returns invariant-loop decreases-loop
-returns c = copying-end c.before.loop.invariant (search rules)
+returns c = copying_end c.before.loop.invariant (search rules)
 
 pub write64s-spec : {M : Type 1} → statement M
 write64s-spec =

@@ -1,6 +1,6 @@
 -- `find_words`: one law of `finding` for each way through it; a refusal comes before anything is written.
 use mathlib.Core.Path.{refl}
-use Rattle.words.proofs.Finding.{find-whole, finding}
+use Rattle.words.proofs.Finding.{find_whole, finding}
 use Rattle.word_bytes.proofs.Start.{bytes_fit}
 use borrow.Author.Rules.{rules}
 use Rattle.word_bytes.proofs.find_words.Statement.{statement}
@@ -25,7 +25,7 @@ enum-told-2 : tie.Need-enum-told-2
 enum-told-2 c = search (finding, rules)
 
 write-words-requires : tie.Need-write-words-requires
-write-words-requires c κs = ((search rules, search (find-whole, rules)), search (bytes_fit, rules))
+write-words-requires c κs = ((search rules, search (find_whole, rules)), search (bytes_fit, rules))
 
 enum-known-n : tie.Need-enum-known-n
 enum-known-n c = search (finding, rules)

@@ -1,6 +1,6 @@
 -- `find_words`: one law of `finding` for each way through it; a refusal comes before anything is written.
 use mathlib.Core.Path.{refl}
-use Rattle.words.proofs.Finding.{find-whole, fit-room, finding}
+use Rattle.words.proofs.Finding.{find_whole, fit_room, finding}
 use borrow.Author.Rules.{rules}
 use Rattle.words.proofs.find_words.Statement.{statement}
 use Rattle.words.proofs.find_words.Tie as tie
@@ -24,7 +24,7 @@ enum-told-2 : tie.Need-enum-told-2
 enum-told-2 c = search (finding, rules)
 
 write-words-requires : tie.Need-write-words-requires
-write-words-requires c κs = ((search rules, search (find-whole, rules)), search (fit-room, rules))
+write-words-requires c κs = ((search rules, search (find_whole, rules)), search (fit_room, rules))
 
 enum-known-n : tie.Need-enum-known-n
 enum-known-n c = search (finding, rules)

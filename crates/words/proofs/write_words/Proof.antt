@@ -4,8 +4,8 @@ use mathlib.Core.Path.{refl}
 use native.Mathlib.Omega.{arith}
 use lib.ListN.{length}
 use Rattle.logic.specs.Flat.{alone}
-use Rattle.logic.proofs.Stored.{flat-alone}
-use Rattle.words.proofs.Storing.{Listing, listing-never, listing-count, listing-end, listing}
+use Rattle.logic.proofs.Stored.{flat_alone}
+use Rattle.words.proofs.Storing.{Listing, listing_never, listing_count, listing_end, listing}
 use borrow.Author.Rules.{rules}
 use Rattle.words.proofs.write_words.Statement.{statement}
 use Rattle.words.proofs.write_words.Tie as tie
@@ -38,7 +38,7 @@ same-length-4 : tie.Need-same-length-4 invariant-loop decreases-loop
 same-length-4 c = omega arith
 
 returns : tie.Need-returns invariant-loop decreases-loop
-returns c = absurd (listing-never c.before.before.before.before.loop.invariant c.before.before.if1.true c.before.next_word.result c.before.next_word.ensures c.match.keys2)
+returns c = absurd (listing_never c.before.before.before.before.loop.invariant c.before.before.if1.true c.before.next_word.result c.before.next_word.ensures c.match.keys2)
 
 add-k : tie.Need-overflow-add-k invariant-loop decreases-loop
 add-k c = omega arith
@@ -65,7 +65,7 @@ same-length-8 : tie.Need-same-length-8 invariant-loop decreases-loop
 same-length-8 c = omega arith
 
 returns-2 : tie.Need-returns-2 invariant-loop decreases-loop
-returns-2 c = let w = listing-end c.before.before.loop.invariant c.if1.false in (omega (arith, listing-count 1 (λ v. refl) c.before.before.loop.invariant c.if1.false), (rw flat-alone at w.starts, (rw flat-alone at w.ends, (rw flat-alone at w.whites, rw flat-alone at w.widths))))
+returns-2 c = let w = listing_end c.before.before.loop.invariant c.if1.false in (omega (arith, listing_count 1 (λ v. refl) c.before.before.loop.invariant c.if1.false), (rw flat_alone at w.starts, (rw flat_alone at w.ends, (rw flat_alone at w.whites, rw flat_alone at w.widths))))
 
 pub write-words-spec : {M : Type 1} → statement M
 write-words-spec =
