@@ -1,6 +1,8 @@
 // What both layouts take and answer: lists of fragments and of line widths, the tests of such lists that
 // stand before any layout, the width of a line by its number, and the answer in document 01's numbers.
 // Nothing here lays fragments out.
+#![tactic(auto)]
+
 ghost use Rattle.std.specs.Prelude.{◌≡◌, ◌≤◌, ◌<◌, max, length, get_or, set};
 ghost use Rattle.fragments.specs.Lists.{first_above, width_of, tested_of};
 ghost use Rattle.fragments.specs.Answers.{answer_of};

@@ -1,4 +1,6 @@
 // Numbers of a list as bytes, high first, for callers that pass byte slices: one codec for all lists.
+#![tactic(auto)]
+
 ghost use Rattle.std.specs.Prelude.{◌≡◌, ◌+◌, ◌*◌, ◌≤◌, ◌<◌, length, get_or, take};
 ghost use Rattle.std.proofs.lemmas.List.Edits.{sets};
 ghost use Rattle.logic.specs.Flat.{flat};
