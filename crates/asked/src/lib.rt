@@ -13,14 +13,14 @@ pub const WIDTH: u32 = 42;
 pub const ARGUMENT_MOST: usize = 4095;
 
 // Where a word stands in the block: its first byte, and the byte after its last.
-#[derive(Drop)]
+#[derive(Clone, Copy)]
 pub struct Part {
     pub start: usize,
     pub end: usize,
 }
 
 // Where a text comes from: standard input, or the file that a word names.
-#[derive(Drop)]
+#[derive(Clone, Copy)]
 pub enum File {
     Input,
     Named(Part),
@@ -29,7 +29,7 @@ pub enum File {
 // What is wrong with arguments: none at all; a first word that is no command; a word that is no number
 // where a width stands; one text where two are compared; a word too many; both texts from standard input;
 // an argument that is too long.
-#[derive(Drop)]
+#[derive(Clone, Copy)]
 pub enum Wrong {
     NoCommand,
     NoSuchCommand,
@@ -42,7 +42,7 @@ pub enum Wrong {
 
 // What is asked for: the help; a text measured, its words listed, filled at a width, or shown at a width; a
 // text and another that came of it, checked at a width. Or what is wrong, with the word that is.
-#[derive(Drop)]
+#[derive(Clone, Copy)]
 pub enum Plan {
     Help,
     Measure(File),
@@ -54,7 +54,7 @@ pub enum Plan {
 }
 
 // The commands; `Unknown` is any other word.
-#[derive(Drop)]
+#[derive(Clone, Copy)]
 enum Command {
     Help,
     Measure,
@@ -66,14 +66,14 @@ enum Command {
 }
 
 // What the words after a command that takes one file name; or a word too many.
-#[derive(Drop)]
+#[derive(Clone, Copy)]
 enum OneFile {
     From(File),
     More(Part),
 }
 
 // What the words after a command that takes a width and a file say; or what is wrong.
-#[derive(Drop)]
+#[derive(Clone, Copy)]
 enum Sized {
     At(u32, File),
     Bad(Wrong, Part),

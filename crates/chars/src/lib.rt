@@ -5,6 +5,8 @@
 // row. They test without short circuits, so that each is a straight line of code.
 // `first_fault` goes by windows of four bytes, which is faster (`specs/Windows.antt`), and reads
 // characters only where a window is wrong or the text is short.
+#![tactic(auto)]
+
 ghost use Rattle.std.specs.Prelude.{◌≡◌, true, ◌+◌, ◌-◌, ◌≤◌, length, get_or};
 ghost use Rattle.logic.specs.Choice.{within};
 ghost use Rattle.logic.specs.Block.{any};
@@ -15,14 +17,14 @@ ghost use Rattle.chars.specs.Windows.{due, narrow, never, wrong, wrong_at, high_
 use units::Offset;
 
 // The character at a place, by its code point, with the place after it; or the place, where none starts.
-#[derive(Drop)]
+#[derive(Clone, Copy)]
 pub enum Read {
     Char(u32, Offset),
     Fault(Offset),
 }
 
 // A text of whole characters; or the first place at which none starts.
-#[derive(Drop)]
+#[derive(Clone, Copy)]
 pub enum Checked {
     Whole,
     Fault(Offset),

@@ -13,7 +13,7 @@ use units::{Columns, Offset};
 use words::{Step, Word};
 
 // The kept part of a line: where it ends, without spaces at its end, and its columns.
-#[derive(Drop)]
+#[derive(Clone, Copy)]
 pub struct Kept {
     pub end: Offset,
     pub columns: Columns,
@@ -21,7 +21,7 @@ pub struct Kept {
 
 // A line cut at a width: whether it is too wide, its kept part, and where the dropped part starts, which
 // is the line's end where nothing is dropped.
-#[derive(Drop)]
+#[derive(Clone, Copy)]
 pub struct Cut {
     pub wide: bool,
     pub kept: Kept,

@@ -13,7 +13,7 @@ use units::{Answer, Offset, TEXT_MOST, WIDTH_MOST};
 
 // How many bytes were changed; or why none were: the text is too long, with its length; not UTF-8, with
 // its first fault; or the line too wide.
-#[derive(Drop)]
+#[derive(Clone, Copy)]
 pub enum Filled {
     Changed(usize),
     TooLong(Offset),

@@ -12,7 +12,7 @@ use units::{Answer, FRAGMENTS_MOST, FragmentIndex};
 // How many lines were laid out; or why none were: lists of unequal length; more than 4,096 fragments; a
 // width above 255, with its index; a penalty above 1,000,000, with its index; too little room, with the
 // places needed; a cost above 2^53.
-#[derive(Drop)]
+#[derive(Clone, Copy)]
 pub enum Laid {
     Lines(usize),
     Unequal,
@@ -25,7 +25,7 @@ pub enum Laid {
 
 // What the lists of a layout are found to be: good; or of unequal length; or of too many fragments; or
 // with a width above 255, by its index.
-#[derive(Drop)]
+#[derive(Clone, Copy)]
 pub enum Tested {
     Good,
     Unequal,

@@ -18,7 +18,7 @@ use units::{Answer, Columns, Offset, TEXT_MOST, WIDTH_MOST};
 
 // What became of a byte: it was kept; or it is an allowed break; or it is a change of one of four kinds
 // that is none: it was no space; it is no newline; another space follows it; no further word does.
-#[derive(Drop)]
+#[derive(Clone, Copy)]
 pub enum Change {
     Kept,
     Break,
@@ -29,7 +29,7 @@ pub enum Change {
 }
 
 // A place, or none.
-#[derive(Drop)]
+#[derive(Clone, Copy)]
 pub enum Found {
     At(Offset),
     Nowhere,
@@ -37,7 +37,7 @@ pub enum Found {
 
 // What is wrong with an input line: nothing; or a line of two or more words is too wide, with its first
 // byte; or it has more lines than needed.
-#[derive(Drop)]
+#[derive(Clone, Copy)]
 pub enum Lined {
     Good,
     Wide(Offset),
@@ -47,7 +47,7 @@ pub enum Lined {
 // Accepted; or why not: too long, with the length; not UTF-8, with the first fault; a width above 255;
 // unequal lengths; a change that is no allowed break, a line that is too wide, or an input line with more
 // lines than needed, each with its first byte.
-#[derive(Drop)]
+#[derive(Clone, Copy)]
 pub enum Judged {
     Accepted,
     TooLong(Offset),
@@ -61,7 +61,7 @@ pub enum Judged {
 
 // A line of an input line while its words are read: where it starts, its columns with each word's
 // whitespace, and how many lines of the input line came before it.
-#[derive(Drop)]
+#[derive(Clone, Copy)]
 pub struct Line {
     pub start: Offset,
     pub columns: Columns,

@@ -16,7 +16,7 @@ use words::Word;
 
 // What an entry answers, with a word: one of zeros where it is refused. C callers get it by value.
 #[repr(C)]
-#[derive(Drop)]
+#[derive(Clone, Copy)]
 pub struct WordAnswer {
     pub number: u32,
     pub place: u64,

@@ -21,7 +21,7 @@ const PENALTY_COUNT: usize = 5;
 
 // The penalties in document 01's order: per line, overflow, short-last-line fraction, short last line,
 // hyphen.
-#[derive(Drop)]
+#[derive(Clone, Copy)]
 pub struct Penalties {
     pub line: u32,
     pub overflow: u32,
@@ -31,14 +31,14 @@ pub struct Penalties {
 }
 
 // Whether the search is begun, or why not.
-#[derive(Drop)]
+#[derive(Clone, Copy)]
 pub enum Admission {
     Open,
     Shut(Laid),
 }
 
 // The start chosen for a position, and what the position then costs.
-#[derive(Drop)]
+#[derive(Clone, Copy)]
 pub struct Choice {
     pub start: FragmentIndex,
     pub cost: u64,

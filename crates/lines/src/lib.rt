@@ -14,7 +14,7 @@ pub const NEWLINE: u8 = 0x0A;
 
 // A word as the walk meets it: its columns, its columns with its whitespace, and where the next word
 // starts.
-#[derive(Drop)]
+#[derive(Clone, Copy)]
 pub struct Met {
     pub word: Columns,
     pub both: Columns,

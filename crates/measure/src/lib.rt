@@ -4,6 +4,8 @@
 // There is one walk over characters, `columns_until`, and it can be told a character to stop before. To
 // measure a text it is told none; to measure a word it is told the space. No rule about words, lines or
 // widths of lines stands here.
+#![tactic(auto)]
+
 ghost use Rattle.std.specs.Prelude.{◌≡◌, ◌+◌, ◌<◌, length, drop};
 ghost use Rattle.logic.specs.Count.{count};
 ghost use Rattle.measure.specs.Escapes.{columns, next, in_text, taken};
@@ -36,7 +38,7 @@ pub const NO_STOP: u32 = 0xFFFFFFFF;
 
 // Where a text stands between two characters: in plain text, after an ESC, after ESC [, after ESC ], or
 // after an ESC that follows an ESC ].
-#[derive(Drop)]
+#[derive(Clone, Copy)]
 pub enum Mode {
     Text,
     Esc,
@@ -46,14 +48,14 @@ pub enum Mode {
 }
 
 // The columns passed and the place that was come to; or the place where no character starts.
-#[derive(Drop)]
+#[derive(Clone, Copy)]
 pub enum Passed {
     To(Columns, Offset),
     Fault(Offset),
 }
 
 // A text's columns; or its length, where it is too long; or its first fault.
-#[derive(Drop)]
+#[derive(Clone, Copy)]
 pub enum Measured {
     Width(Columns),
     TooLong(Offset),

@@ -18,7 +18,7 @@ use units::{Answer, Columns, Offset, TEXT_MOST, WIDTH_MOST};
 use words::{SPACE_CHAR, Word};
 
 // Where a piece ends, and its columns.
-#[derive(Drop)]
+#[derive(Clone, Copy)]
 pub struct Cut {
     pub end: Offset,
     pub width: Columns,
@@ -26,7 +26,7 @@ pub struct Cut {
 
 // How many pieces were listed; or why none were: too long, with the length; not UTF-8, with the first
 // fault; a width above 255; too little room, with the places needed.
-#[derive(Drop)]
+#[derive(Clone, Copy)]
 pub enum Broken {
     Pieces(usize),
     TooLong(Offset),
@@ -36,7 +36,7 @@ pub enum Broken {
 }
 
 // A text as one word; or why it is none: too long, with the length; not UTF-8, with the first fault.
-#[derive(Drop)]
+#[derive(Clone, Copy)]
 pub enum OneWord {
     Made(Word),
     TooLong(Offset),

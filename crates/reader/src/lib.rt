@@ -13,14 +13,14 @@ use units::{Answer, Offset, TEXT_MOST};
 use words::{Step, Word};
 
 // A reader: the text that it holds, and where it stands.
-#[derive(Drop)]
+#[derive(Clone, Copy)]
 pub struct Reader<'a> {
     pub text: &'a [u8],
     pub at: Offset,
 }
 
 // What opening finds: a text that can be read; or its length, where it is too long; or its first fault.
-#[derive(Drop)]
+#[derive(Clone, Copy)]
 pub enum Opened {
     Ready,
     TooLong(Offset),
@@ -28,21 +28,21 @@ pub enum Opened {
 }
 
 // What opening finds, and where the reader then stands.
-#[derive(Drop)]
+#[derive(Clone, Copy)]
 pub struct Opening {
     pub answer: Opened,
     pub at: Offset,
 }
 
 // The word to be read, or no more.
-#[derive(Drop)]
+#[derive(Clone, Copy)]
 pub enum Found {
     Next(Word),
     NoMore,
 }
 
 // What a reader answers, and where it then stands.
-#[derive(Drop)]
+#[derive(Clone, Copy)]
 pub struct Turn {
     pub found: Found,
     pub next: Offset,

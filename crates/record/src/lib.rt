@@ -19,7 +19,7 @@ const CUT: u32 = 14;
 
 // What the start of a record is: nothing, where the input ends between two records; what is refused; or
 // the head of a job, with its line width and the length of its text.
-#[derive(Drop)]
+#[derive(Clone, Copy)]
 pub enum Head {
     End,
     Refused(Answer),
@@ -27,7 +27,7 @@ pub enum Head {
 }
 
 // What is written in reply: a head, and whether the text follows it; and whether a further record is read.
-#[derive(Drop)]
+#[derive(Clone, Copy)]
 pub struct Reply {
     pub head: [u8; 7],
     pub filled: bool,

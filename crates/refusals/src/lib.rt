@@ -28,7 +28,7 @@ const WIDE_LINE: u32 = 11;
 const MANY_LINES: u32 = 12;
 
 // A place of a text as a person finds it: the line, and the column in it, both from 1.
-#[derive(Drop)]
+#[derive(Clone, Copy)]
 pub struct Spot {
     pub line: usize,
     pub column: usize,

@@ -40,7 +40,7 @@ const COST_BYTES: usize = 4;
 
 // What the start of a record is: nothing, where the file ends between two records; a head that is cut
 // short; or a head: the byte of its kind, a line width, and how many bytes it asks and stores.
-#[derive(Drop)]
+#[derive(Clone, Copy)]
 pub enum Head {
     End,
     Cut,
@@ -53,7 +53,7 @@ pub enum Head {
 }
 
 // How many fragments a layout has whose numbers are these; or that numbers are missing.
-#[derive(Drop)]
+#[derive(Clone, Copy)]
 pub enum Parts {
     Good(usize),
     Bad,
@@ -61,7 +61,7 @@ pub enum Parts {
 
 // What a record asks: one of the entries, or that the program says that what follows is wrong on purpose;
 // or it is of no kind that is known.
-#[derive(Drop)]
+#[derive(Clone, Copy)]
 pub enum Kind {
     Measure,
     Words,
@@ -76,7 +76,7 @@ pub enum Kind {
 
 // How an answer compares with the stored one: the same; other lines at the same cost; or it differs. Or
 // nothing was asked: what follows is wrong on purpose, or the kind is not known.
-#[derive(Drop)]
+#[derive(Clone, Copy)]
 pub enum Verdict {
     Agreed,
     Tied,
@@ -87,7 +87,7 @@ pub enum Verdict {
 
 // How many records were replayed, how many agreed, how many were ties, and the number of the first that
 // differs, or 0.
-#[derive(Drop)]
+#[derive(Clone, Copy)]
 pub struct Tally {
     pub replayed: u64,
     pub agreed: u64,

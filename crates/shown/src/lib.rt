@@ -53,7 +53,7 @@ const C1_PICTURE: u8 = 0xA6;
 
 // A row of a slip: its bytes in the buffer, where the next line starts, which is no place in the text
 // after the last line, and whether the line is too wide.
-#[derive(Drop)]
+#[derive(Clone, Copy)]
 pub struct Printed {
     pub len: usize,
     pub next: usize,
@@ -61,14 +61,14 @@ pub struct Printed {
 }
 
 // A row of a line: its bytes in the buffer, and whether the line is too wide.
-#[derive(Drop)]
+#[derive(Clone, Copy)]
 pub struct Drawn {
     pub len: usize,
     pub wide: bool,
 }
 
 // The lines so far: how many, how many of them too wide, and the number of the first of these, from 1.
-#[derive(Drop)]
+#[derive(Clone, Copy)]
 pub struct Tally {
     pub lines: u64,
     pub wide: u64,

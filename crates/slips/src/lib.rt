@@ -31,21 +31,21 @@ pub const BLOCK_ROOM: usize = 24582;
 pub const LINE_ROOM: usize = 180267;
 
 // What came of a text: how many bytes of it are in the buffer, or that it could not be read.
-#[derive(Drop)]
+#[derive(Clone, Copy)]
 struct Came {
     whole: bool,
     count: usize,
 }
 
 // The lines of a text, counted as they are written; or that a write failed.
-#[derive(Drop)]
+#[derive(Clone, Copy)]
 enum Rows {
     Put(Tally),
     Failed,
 }
 
 // The words of a text, counted as they are written; or that a write failed.
-#[derive(Drop)]
+#[derive(Clone, Copy)]
 enum Listed {
     All(usize),
     Failed,
@@ -432,7 +432,7 @@ pub fn gather(block: &mut [u8], first: usize) -> usize
 // ---- a whole run
 
 // Where a run reads and writes: three descriptors.
-#[derive(Drop)]
+#[derive(Clone, Copy)]
 pub struct Ends {
     pub input: i32,
     pub output: i32,

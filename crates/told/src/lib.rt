@@ -18,7 +18,7 @@ const SPACE: u8 = 0x20;
 const NEWLINE: u8 = 0x0A;
 
 // A word whose numbers were said, how many bytes they take, and where the next word starts; or no more.
-#[derive(Drop)]
+#[derive(Clone, Copy)]
 pub enum Told {
     Line {
         len: usize,

@@ -5,15 +5,15 @@ ghost use Rattle.std.specs.Prelude.{◌≡◌};
 ghost use Rattle.units.specs.Answers.{success, refusal};
 
 // A place in a text, counted in bytes from its start.
-#[derive(Drop)]
+#[derive(Clone, Copy)]
 pub struct Offset(pub usize);
 
 // A number of printer columns.
-#[derive(Drop)]
+#[derive(Clone, Copy)]
 pub struct Columns(pub usize);
 
 // A place in the lists of fragments, counted from 0.
-#[derive(Drop)]
+#[derive(Clone, Copy)]
 pub struct FragmentIndex(pub usize);
 
 // The longest text, in bytes.
@@ -34,7 +34,7 @@ pub const COST_MOST: u64 = 9007199254740992;
 // What an entry answers in the numbers of document 01: 0 for success or the number of a refusal, its
 // place, and the count. C callers get it by value.
 #[repr(C)]
-#[derive(Drop)]
+#[derive(Clone, Copy)]
 pub struct Answer {
     pub number: u32,
     pub place: u64,

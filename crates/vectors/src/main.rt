@@ -19,7 +19,7 @@ const NO_KIND: u8 = 0;
 
 // The kind of the last record, how the run of its kind stands, the number of the last record, and whether a
 // further one is read.
-#[derive(Drop)]
+#[derive(Clone, Copy)]
 struct State {
     kind: u8,
     tally: Tally,

@@ -29,7 +29,7 @@ const PLACES: usize = 60000;
 const FRESH: u32 = 0xFFFFFFFF;
 
 // The entries that write lists: `words::find_words`, `pieces::break_apart` and `pieces::break_words`.
-#[derive(Drop)]
+#[derive(Clone, Copy)]
 enum Entry {
     Words,
     Apart,

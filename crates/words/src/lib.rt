@@ -3,6 +3,8 @@
 // has its name there.
 //
 // Nothing here breaks a word or lays words out.
+#![tactic(auto)]
+
 ghost use Rattle.std.specs.Prelude.{◌≡◌, ◌+◌, ◌≤◌, ◌<◌, min, length, drop, set, map};
 ghost use Rattle.std.proofs.lemmas.List.Edits.{sets};
 ghost use Rattle.units.specs.Limits.{text_most};
@@ -21,7 +23,7 @@ const SPACE: u8 = 0x20;
 pub const SPACE_CHAR: u32 = 0x20;
 
 // A word: where its content starts and ends, how many spaces follow, and the columns of its content.
-#[derive(Drop)]
+#[derive(Clone, Copy)]
 pub struct Word {
     pub start: Offset,
     pub end: Offset,
@@ -30,7 +32,7 @@ pub struct Word {
 }
 
 // The word at an offset, with the offset after it; or no more; or the place of a fault in it.
-#[derive(Drop)]
+#[derive(Clone, Copy)]
 pub enum Step {
     Found(Word, Offset),
     End,
@@ -39,7 +41,7 @@ pub enum Step {
 
 // How many words were listed; or why none were: too long, with the length; not UTF-8, with the first
 // fault; too little room, with the places needed.
-#[derive(Drop)]
+#[derive(Clone, Copy)]
 pub enum Listed {
     Words(usize),
     TooLong(Offset),
@@ -48,7 +50,7 @@ pub enum Listed {
 }
 
 // Whether there is room, or how many places are needed.
-#[derive(Drop)]
+#[derive(Clone, Copy)]
 pub enum Fit {
     Enough,
     Needs(usize),
