@@ -1,6 +1,6 @@
 -- A text with no wrong window is UTF-8. Where no tail is due a byte starts a character, and each tail that the byte asks for is due until it has come; so the text is passed character by character.
 use mathlib.Core.Path.{◌≡◌, refl, sym, ap, ◌∙◌}
-use mathlib.Core.Bool.{Bool, true, false, not, xor, ◌&&◌, ◌||◌, or_true}
+use mathlib.Core.Bool.{Bool, true, false, not, xor, ◌&&◌, ◌||◌, or-true}
 use mathlib.Core.List.{List, [], ◌∷◌}
 use Prim.Native.Nat.{ℕ, zero, suc, ◌+◌, ◌-◌, ◌≤◌, ◌<◌}
 use native.Mathlib.Nat.{suc-add, add_assoc}
@@ -60,11 +60,11 @@ due_second p q r h = rw (le-leb 0xC0 r h)
 
 due_third : (p q r : ℕ) → 0xE0 ≤ q → due p q r ≡ true
 unfolding due
-due_third p q r h = simp (le-leb 0xE0 q h, or_true)
+due_third p q r h = simp (le-leb 0xE0 q h, or-true)
 
 due_fourth : (p q r : ℕ) → 0xF0 ≤ p → due p q r ≡ true
 unfolding due
-due_fourth p q r h = simp (le-leb 0xF0 p h, or_true)
+due_fourth p q r h = simp (le-leb 0xF0 p h, or-true)
 
 -- A byte that is no tail and occurs starts a character.
 lead : (a : ℕ) → tail a ≡ false → never a ≡ false → 0x80 ≤ a → (0xC2 ≤ a) × (a ≤ 0xF4)

@@ -3,7 +3,7 @@ use mathlib.Core.Path.{◌≡◌, refl, sym, ap, ◌∙◌}
 use mathlib.Core.List.{List, [], ◌++◌, map}
 use Prim.Native.Nat.{ℕ, ◌+◌, ◌-◌, ◌≤◌, ◌<◌}
 use native.Mathlib.Omega.{arith}
-use lib.ListN.{length, drop, length-append, length_map}
+use lib.ListN.{length, drop, length-append, length-map}
 use borrow.Rule.Slice.PartMut.{mid_of, put_mid, mid_len, same_len_mid, drop_put}
 use mir.Syntax.{w64}
 use mir.Val.{Fits}
@@ -116,7 +116,7 @@ module _ {width : ℕ} {s₀ s : List ℕ} {from changed : ℕ} (k : Going width
         whole = rw next₀ at (next_whole s₀ from k.whole);
         text = ap (λ t. broken t rest) after_is ∙ sym (broken_append s here rest) ∙ ap (broken s) (sym all) ∙ k.text;
         counted =
-            omega (arith, k.counted, ap length all, length-append here rest, length_map (breaks width (body_of s₀ (line_at s₀ from))) (λ p. from + p), en, ap (λ l. length (breaks width l)) body_now);
+            omega (arith, k.counted, ap length all, length-append here rest, length-map (breaks width (body_of s₀ (line_at s₀ from))) (λ p. from + p), en, ap (λ l. length (breaks width l)) body_now);
         few = omega (arith, k.few, n_few, going_order, e, b, (body_inside s from h).1);
       }
 

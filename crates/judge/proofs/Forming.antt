@@ -5,7 +5,7 @@ use mathlib.Core.List.{List, [], ◌∷◌, map}
 use Prim.Native.Nat.{ℕ, suc, ◌+◌, ◌≤◌, ◌<◌}
 use native.Mathlib.Omega.{arith}
 use lib.Dec.{ltb}
-use lib.ListN.{length, length_map}
+use lib.ListN.{length, length-map}
 use borrow.Author.Tests.{ltb-true, ltb-false, le-ltb}
 use Rattle.logic.proofs.Choice.{both}
 use Rattle.fragments.specs.Fragments.{Fragment}
@@ -120,7 +120,7 @@ module _ (width : ℕ) (after : List ℕ) (start : ℕ) where
       let f = fragment_of w in
       let r = map fragment_of ws in
       let b = marks after start ws in
-      let k = wide_fits width start 0 (columns_of w) ws b (marks_length after start ws ∙ length_map ws fragment_of) h.0 in
+      let k = wide_fits width start 0 (columns_of w) ws b (marks_length after start ws ∙ length-map ws fragment_of) h.0 in
       let g = fits_grouping {f = f} k in
       let n = ltb-false (started (fit width (columns_of w) r)) (started b) h.1 in
       (g.good, λ others o. omega (arith, count_least o, some_line others o, lines_count k))
@@ -129,7 +129,7 @@ module _ (width : ℕ) (after : List ℕ) (start : ℕ) where
   pub fits_good : (ws : List Word) → wide_of width after start ws ≡ Nowhere → AllGood width (formed_of after start ws)
   unfolding formed_of wide_of AllGood
   fits_good [] h = tt
-  fits_good (w ∷ ws) h = (fits_grouping {f = fragment_of w} (wide_fits width start 0 (columns_of w) ws (marks after start ws) (marks_length after start ws ∙ length_map ws fragment_of) h)).good
+  fits_good (w ∷ ws) h = (fits_grouping {f = fragment_of w} (wide_fits width start 0 (columns_of w) ws (marks after start ws) (marks_length after start ws ∙ length-map ws fragment_of) h)).good
 
   pub good_none : (ws : List Word) → AllGood width (formed_of after start ws) → wide_of width after start ws ≡ Nowhere
   unfolding formed_of wide_of
@@ -144,6 +144,6 @@ module _ (width : ℕ) (after : List ℕ) (start : ℕ) where
       let f = fragment_of w in
       let r = map fragment_of ws in
       let b = marks after start ws in
-      let k = wide_fits width start 0 (columns_of w) ws b (marks_length after start ws ∙ length_map ws fragment_of) h in
+      let k = wide_fits width start 0 (columns_of w) ws b (marks_length after start ws ∙ length-map ws fragment_of) h in
       let m = count_met width f r in
       (lines f r (fit width (columns_of w) r), m.0, omega (arith, m.1, lines_count k, ltb-true (started (fit width (columns_of w) r)) (started b) g))

@@ -4,7 +4,7 @@ use mathlib.Core.Bool.{Bool, true, false}
 use mathlib.Core.List.{List, [], ◌∷◌, map}
 use Prim.Native.Nat.{ℕ, suc, ◌≤◌, max}
 use native.Mathlib.Omega.{arith}
-use lib.ListN.{length, length_map}
+use lib.ListN.{length, length-map}
 use Rattle.fragments.specs.Fragments.{Fragment}
 use Rattle.first_fit.specs.Groupings.{Grouping, too_wide, columns_after, fit, started, line_count}
 use Rattle.first_fit.proofs.Laying.{flags_length}
@@ -25,7 +25,7 @@ breaks_of_count : (width : ℕ) (ws : List Word) → suc (length (breaks_of widt
 unfolding breaks_of line_count
 breaks_of_count width [] = refl
 breaks_of_count width (w ∷ ws) =
-    ap suc (places_count ws (fit width (columns_of w) (map fragment_of ws)) (flags_length (too_wide width) (columns_after width) (columns_of w) (map fragment_of ws) ∙ length_map ws fragment_of))
+    ap suc (places_count ws (fit width (columns_of w) (map fragment_of ws)) (flags_length (too_wide width) (columns_after width) (columns_of w) (map fragment_of ws) ∙ length-map ws fragment_of))
 
 -- One line more than breaks.
 pub breaks_lines : (width : ℕ) (s : List ℕ) → suc (length (breaks width s)) ≡ line_count width (map fragment_of (words s))

@@ -1,6 +1,6 @@
 -- The items of the code's step are the pieces that document 01 has: those of one word, and those of a text's words.
 use mathlib.Core.Path.{◌≡◌, refl, sym, ◌∙◌}
-use mathlib.Core.Bool.{or_true}
+use mathlib.Core.Bool.{or-true}
 use mathlib.Core.List.{List, [], ◌∷◌, ◌++◌}
 use Prim.Native.Nat.{ℕ, ◌+◌, ◌-◌, ◌≤◌, ◌<◌}
 use native.Mathlib.Omega.{arith}
@@ -120,7 +120,7 @@ spaces_in {s} {e} {i} k =
 step_piece_in : {s : List ℕ} {e i : ℕ} (w : ℕ) → InWord s e i → i < e → step_piece 0x20 (length s) w s i ≡ piece_at s w e (count space (drop e s)) i
 unfolding step_piece piece_at spaces_after
 step_piece_in {s} {e} {i} w k l =
-    rw (step_end_in w k, ahead_words s i, in_word_rest k, or_true (eqb (piece_end s w e i) (length s)), spaces_in (in_word_next w k l).1)
+    rw (step_end_in w k, ahead_words s i, in_word_rest k, or-true (eqb (piece_end s w e i) (length s)), spaces_in (in_word_next w k l).1)
 
 step_after_in : {s : List ℕ} {e i : ℕ} (w : ℕ) → InWord s e i → i < e → after_step 0x20 (length s) w s i ≡ pick (eqb (piece_end s w e i) e) (e + count space (drop e s)) (piece_end s w e i)
 step_after_in {s} {e} {i} w k l =
@@ -168,7 +168,7 @@ kept_word s w i k b l =
     let c : Whole (content s i) = content_whole s i k.whole in
     let f : piece w (decode (content s i)) ≡ decode (content s i) = fits_whole w 0 Text (decode (content s i)) (omega arith) in
     let e : step_end 0x20 (length s) w s i ≡ i + count letter (drop i s) = step_end_words s w i ∙ rw f (omega (arith, c, length_content s i)) in
-    step_next (all_words s) w i (rw (take-length s) k.whole) b ∙ rw (e, or_true (eqb (i + count letter (drop i s)) (length s)), ahead_words s i, f)
+    step_next (all_words s) w i (rw (take-length s) k.whole) b ∙ rw (e, or-true (eqb (i + count letter (drop i s)) (length s)), ahead_words s i, f)
 
 pub same_words : (s : List ℕ) (w : ℕ) → Whole s → step_pieces 0x20 (length s) w s 0 ≡ break_words s w
 unfolding break_words break_each words word_at

@@ -1,6 +1,6 @@
 -- What the step of the code finds, and that it goes on, over places from which the content is whole characters.
 use mathlib.Core.Path.{◌≡◌, refl, sym, ap, ◌∙◌}
-use mathlib.Core.Bool.{true, false, ◌||◌, or_true, or-false}
+use mathlib.Core.Bool.{true, false, ◌||◌, or-true, or-false}
 use mathlib.Core.List.{List, [], ◌∷◌, ◌++◌, append_assoc}
 use Prim.Native.Nat.{ℕ, zero, suc, ◌+◌, ◌-◌, ◌≤◌, ◌<◌}
 use native.Mathlib.Nat.{add-sub_cancel_left, add-zero}
@@ -143,7 +143,7 @@ step_end_words s w i = rw (ahead_words s i)
 
 pub after_words : (s : List ℕ) (w i : ℕ) → after_step 0x20 (length s) w s i ≡ step_end 0x20 (length s) w s i + count space (drop (step_end 0x20 (length s) w s i) s)
 unfolding after_step spaces_after
-after_words s w i = rw (or_true (eqb (step_end 0x20 (length s) w s i) (length s)))
+after_words s w i = rw (or-true (eqb (step_end 0x20 (length s) w s i) (length s)))
 
 -- The piece of the content parts the text from i on.
 pub words_part : (s : List ℕ) (w i : ℕ) → Whole (drop i s) → Parted (drop i s) (piece w (decode (content s i))) (leaving w 0 Text (decode (content s i)) ++ decode (drop (count letter (drop i s)) (drop i s)))

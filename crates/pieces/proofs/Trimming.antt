@@ -1,6 +1,6 @@
 -- A text without the spaces at its end, the loop of `content_end` that goes back over them, and what `word_from` answers.
 use mathlib.Core.Path.{◌≡◌, refl, sym, ap, ◌∙◌}
-use mathlib.Core.Bool.{Bool, true, false, ◌&&◌, and_false}
+use mathlib.Core.Bool.{Bool, true, false, ◌&&◌, and-false}
 use mathlib.Core.List.{List, [], ◌∷◌, ◌++◌, append_assoc}
 use Prim.Native.Nat.{ℕ, suc, ◌+◌, ◌-◌, ◌≤◌, ◌<◌}
 use native.Mathlib.Omega.{arith}
@@ -40,7 +40,7 @@ trimmed_space (x ∷ xs) b e = rw (trimmed_space xs b e)
 trimmed_letter : (xs : List ℕ) (b : ℕ) → space b ≡ false → trimmed (xs ++ b ∷ []) ≡ suc (length xs)
 unfolding trimmed
 trimmed_letter [] b e = rw e
-trimmed_letter (x ∷ xs) b e = rw (trimmed_letter xs b e, ne_eqb (suc (length xs)) 0 (λ z. omega arith), and_false)
+trimmed_letter (x ∷ xs) b e = rw (trimmed_letter xs b e, ne_eqb (suc (length xs)) 0 (λ z. omega arith), and-false)
 
 -- ---- what stands after the content: spaces alone
 

@@ -5,7 +5,7 @@ use mathlib.Core.List.{List, map}
 use Prim.Native.Nat.{ℕ, ◌+◌, ◌-◌, ◌*◌, ◌≤◌, min}
 use native.Mathlib.Omega.{arith}
 use lib.Dec.{ltb}
-use lib.ListN.{length, take, drop, length_map}
+use lib.ListN.{length, take, drop, length-map}
 use lib.Seq.{sets, sets-eq, length-sets, take_at}
 use borrow.Author.Tests.{eq-eqb, ne_eqb, ltb-false}
 use Rattle.units.specs.declared.Offset.{Offset}
@@ -62,7 +62,7 @@ module _ (n : ℕ) (ps : List Word) (a b c d : List ℕ) {a' b' c' d' : List ℕ
   }
 
   numbers : (f : Word → ℕ) → n ≡ length (map f ps)
-  numbers f = e ∙ sym (length_map ps f)
+  numbers f = e ∙ sym (length-map ps f)
 
   four_after : (s : List ℕ) → four n (part 0 n a') (part 0 n b') (part 0 n c') (part 0 n d') s ≡ words_are ps s
   four_after s = rw (part_stored a (map start_of ps) (numbers start_of) k.starts p, part_stored b (map end_of ps) (numbers end_of) k.ends q, part_stored c (map white_of ps) (numbers white_of) k.whites r, part_stored d (map width_of_word ps) (numbers width_of_word) k.widths t, e)

@@ -1,6 +1,6 @@
 -- What is shown has nothing left to show: no byte below 20, no 7F and no control character of C1 passes.
 use mathlib.Core.Path.{◌≡◌, refl, ap, ◌∙◌}
-use mathlib.Core.Bool.{false, and_false}
+use mathlib.Core.Bool.{false, and-false}
 use mathlib.Core.List.{List, [], ◌∷◌, ◌++◌}
 use Prim.Native.Nat.{ℕ, zero, suc, ◌+◌, ◌≤◌}
 use native.Mathlib.Omega.{arith}
@@ -22,7 +22,7 @@ unfolding shown_from shown_one
 plain_again a r p q t = rw (p, q, t)
 
 no_c1 : (a : ℕ) → is_c1 a 0xE2 ≡ false
-no_c1 a = and_false (eqb a 0xC2)
+no_c1 a = and-false (eqb a 0xC2)
 
 -- What stands for bytes starts like them, or with a picture.
 first_again : (a : ℕ) (t : List ℕ) → is_c1 a (get_or t 0 0) ≡ false → is_c1 a (get_or (shown t) 0 0) ≡ false
