@@ -1,0 +1,12 @@
+-- `plain_end`: a loop that counts, by the laws of `Counting`.
+use Prim.Native.Nat.{◌-◌}
+use lib.ListN.{length}
+use Rattle.logic.proofs.Count.{Counting}
+use Rattle.measure.specs.Walk.{plain}
+use Rattle.measure.proofs.plain_end.Given as goal
+
+abbrev pub invariant-loop-at : goal.invariant-loop-at
+invariant-loop-at l = Counting (plain l.stop) l.text l.initial.at l.at
+
+abbrev pub decreases-loop-at : goal.decreases-loop-at
+decreases-loop-at l = length l.text - l.at
