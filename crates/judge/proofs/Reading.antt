@@ -46,10 +46,8 @@ wide_of Nowhere true {o = o} e h = let z : Many ≡ Wide o = sym e ∙ h in let 
 wide_of Nowhere false {o = o} e h = let z : Good ≡ Wide o = sym e ∙ h in let y : ◌≡◌ {A = ℕ} 0 1 = cc in absurd (omega arith)
 
 -- or none, and whether it has too many.
-none_of : (f : Found) (t : Bool) (r : Lined) → r ≡ lined_by f t → OneOf (0 ∷ 2 ∷ []) (tag_of lined.the_type r) → f ≡ Nowhere
-none_of (At p) t Good e o = let y : ◌≡◌ {A = ℕ} 0 1 = cc in absurd (omega arith)
-none_of (At p) t (Wide q) e o = absurd (⊎_elim (λ z. omega arith) (λ z. omega arith) o)
-none_of (At p) t Many e o = let y : ◌≡◌ {A = ℕ} 0 1 = cc in absurd (omega arith)
+none_of : (f : Found) (t : Bool) (r : Lined) → r ≡ lined_by f t → ((o : Offset) → r ≡ Wide o → ⊥) → f ≡ Nowhere
+none_of (At p) t r e o = absurd (o p e)
 none_of Nowhere t r e o = refl
 
 many_of_lem : (t : Bool) (m : Found) (start : ℕ) {r : Lined} → r ≡ lined_by Nowhere t → many_next m r start ≡ or_else m (pick t (At (record { 0 = start })) Nowhere)
@@ -101,7 +99,7 @@ module _ {width : ℕ} {before after : List ℕ} {many : Found} {at : ℕ} (k : 
       unfolding lines_of first_in
       reading_wide h = rw (← k.wide, lines_are, wide_of (wide_in width before after (line_at before at)) (many_of width after at (words (body_of before (line_at before at)))) lined_is h)
 
-      pub reading_again : {m : Found} → OneOf (0 ∷ 2 ∷ []) (tag_of lined.the_type r) → m ≡ many_next many r at → Reading width before after m (e + 1)
+      pub reading_again : {m : Found} → ((o : Offset) → r ≡ Wide o → ⊥) → m ≡ many_next many r at → Reading width before after m (e + 1)
       unfolding first_in
       reading_again {m} o y =
           let n = none_of (wide_in width before after (line_at before at)) (many_of width after at (words (body_of before (line_at before at)))) r lined_is o in

@@ -89,13 +89,8 @@ module _ (s : List ℕ) (at : Offset) {r : Step} (l : at.0 < length s) (w : Whol
       let m = met_stays {s = s} {i = at.0} refl l in
       rw a (record { fits = omega (arith, m.most, m.inside) })
 
-  pub meets_always : OneOf (1 ∷ 2 ∷ []) (tag_of step.the_type r) → ⊥
-  meets_always o = go r found o
-    where
-      go : (r : Step) → r ≡ Found (word_at s at.0) (record { 0 = after_word s at.0 }) → OneOf (1 ∷ 2 ∷ []) (tag_of step.the_type r) → ⊥
-      go (Found x f) z o = ⊎_elim (λ z. omega arith) (λ z. omega arith) o
-      go End z o = let y : ◌≡◌ {A = ℕ} 0 1 = cc in omega arith
-      go (Fault f) z o = let y : ◌≡◌ {A = ℕ} 0 1 = cc in omega arith
+  pub meets_always : ((x : Word) (o : Offset) → r ≡ Found x o → ⊥) → ⊥
+  meets_always o = o (word_at s at.0) (record { 0 = after_word s at.0 }) found
 
 -- ---- `starts_line`
 

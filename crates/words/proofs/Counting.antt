@@ -1,19 +1,11 @@
 -- How many words there are: at each word's start, those passed and those from there on are all of them.
-use mathlib.Core.Path.{◌≡◌, refl, sym, ap, ◌∙◌}
-use mathlib.Core.Bool.{Bool, true, false, not}
+use mathlib.Core.Path.{◌≡◌, ap}
 use mathlib.Core.List.{List, [], ◌∷◌}
-use Prim.Native.Nat.{ℕ, suc, ◌+◌, ◌-◌, ◌≤◌, ◌<◌}
-use native.Mathlib.Nat.{add-zero}
+use Prim.Native.Nat.{ℕ, ◌+◌, ◌-◌, ◌≤◌, ◌<◌}
 use native.Mathlib.Omega.{arith}
-use lib.Dec.{eqb, ltb}
-use lib.ListN.{length, get_or, drop, length-drop}
-use lib.Seq.{drop-cons}
-use borrow.Author.Tests.{ltb-true, ltb-false}
-use Rattle.logic.specs.Choice.{pick}
+use lib.ListN.{length, drop}
 use Rattle.logic.specs.Count.{count}
 use Rattle.logic.specs.Items.{items}
-use Rattle.logic.proofs.Choice.{both}
-use Rattle.logic.proofs.Count.{count_fits}
 use Rattle.logic.proofs.Items.{items_next, items_none}
 use Rattle.words.specs.declared.Word.{Word}
 use Rattle.words.specs.Words.{space, letter, content_end, white, after_word, word_at, words}

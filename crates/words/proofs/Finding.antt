@@ -8,13 +8,11 @@ use lib.ListN.{length}
 use borrow.Author.Tests.{lt-ltb, le-ltb, ltb-true, ltb-false}
 use Rattle.units.specs.declared.Offset.{Offset}
 use Rattle.units.specs.Limits.{text_most}
-use Rattle.logic.specs.Choice.{pick}
 use Rattle.logic.proofs.Choice.{both}
 use Rattle.chars.specs.declared.Checked.{Checked}
 use Rattle.chars.specs.declared.Checked.TheVariants as utf8
 use Rattle.chars.specs.Utf8.{first_fault, Whole, checked}
 use Rattle.chars.proofs.Reading.{checked_whole, checked_fault}
-use Rattle.words.specs.declared.Listed.{Listed}
 use Rattle.words.specs.declared.Listed.TheVariants.{Words, TooLong, NotUtf8, NoRoom}
 use Rattle.words.specs.declared.Fit.{Fit}
 use Rattle.words.specs.declared.Fit.TheVariants.{Enough, Needs}

@@ -1,14 +1,11 @@
 -- What `next_word` answers, one law for each way through it, and that the step goes on.
-use mathlib.Core.Path.{◌≡◌, refl, sym, ap, ◌∙◌}
-use mathlib.Core.Bool.{Bool, true, false, not}
+use mathlib.Core.Path.{◌≡◌, sym, ◌∙◌}
 use mathlib.Core.List.{List}
 use Prim.Native.Nat.{ℕ, ◌+◌, ◌-◌, ◌≤◌, ◌<◌}
 use native.Mathlib.Nat.{add-sub_cancel_left}
 use native.Mathlib.Omega.{arith}
-use mir.Syntax.{w64}
-use mir.Val.{Fits}
-use lib.Dec.{eqb, leb, ltb}
-use lib.ListN.{length, take, drop, length-drop}
+use lib.Dec.{leb}
+use lib.ListN.{length, drop}
 use lib.Seq.{length-take-le}
 use borrow.Author.Tests.{lt-ltb, le-ltb, leb-true, leb-false}
 use Rattle.units.specs.declared.Offset.{Offset}
@@ -17,15 +14,13 @@ use Rattle.logic.specs.Choice.{pick}
 use Rattle.logic.specs.Count.{count}
 use Rattle.logic.proofs.Choice.{both}
 use Rattle.logic.proofs.Count.{count_fits}
-use Rattle.chars.specs.Utf8.{first_fault, Whole}
+use Rattle.chars.specs.Utf8.{first_fault}
 use Rattle.chars.proofs.Laws.{fault_fits}
 use Rattle.measure.specs.declared.Passed.{Passed}
 use Rattle.measure.specs.declared.Passed.TheVariants as passed
 use Rattle.measure.specs.Escapes.{width_of}
 use Rattle.measure.specs.Measure.{passed_of}
 use Rattle.measure.proofs.Upto.{walk_upto}
-use Rattle.words.specs.declared.Word.{Word}
-use Rattle.words.specs.declared.Step.{Step}
 use Rattle.words.specs.declared.Step.TheVariants.{Found, End, Fault}
 use Rattle.words.specs.Words.{space, letter, content_end, content, white, after_word, word_at, step_at}
 

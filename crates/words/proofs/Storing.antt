@@ -1,28 +1,22 @@
 -- Words stored into four lists, and the loop that lists the words of a text. `Writing` speaks of any words and of any form of the numbers, so it serves pieces and lists of bytes too.
 use mathlib.Core.Path.{◌≡◌, refl, sym, ap, ◌∙◌}
-use mathlib.Core.Logic.{⊎_elim}
 use mathlib.Core.List.{List, [], ◌∷◌, map}
-use Prim.Native.Nat.{ℕ, suc, ◌+◌, ◌-◌, ◌*◌, ◌^◌, ◌≤◌, ◌<◌}
+use Prim.Native.Nat.{ℕ, suc, ◌+◌, ◌-◌, ◌*◌, ◌≤◌, ◌<◌}
 use native.Mathlib.Omega.{arith}
 use lib.ListN.{length, drop, length-drop, length-append}
 use lib.Seq.{sets}
-use types.Run.{OneOf}
-use denote.Enum.Declared.{tag_of}
 use Rattle.units.specs.declared.Offset.{Offset}
 use Rattle.units.specs.Limits.{text_most}
-use Rattle.logic.specs.Count.{count}
 use Rattle.logic.specs.Flat.{flat, alone}
 use Rattle.logic.proofs.Count.{count_fits}
 use Rattle.logic.proofs.Stored.{Stored, stored_start, stored_step, stored_end, flat_alone, flat_length}
 use Rattle.chars.specs.Utf8.{Whole}
-use Rattle.measure.specs.Escapes.{width_of}
 use Rattle.measure.proofs.Laws.{width_bytes}
 use Rattle.words.specs.declared.Word.{Word}
 use Rattle.words.specs.declared.Step.{Step}
-use Rattle.words.specs.declared.Step.TheVariants.{Found, End, Fault}
-use Rattle.words.specs.Words.{space, letter, content, content_end, white, after_word, word_at, words, step_at}
+use Rattle.words.specs.declared.Step.TheVariants.{Found}
+use Rattle.words.specs.Words.{letter, content, content_end, white, after_word, word_at, words, step_at}
 use Rattle.words.specs.Lists.{start_of, end_of, white_of, width_of_word, Small, PutAt, Room}
-use Rattle.words.specs.contracts.Step as step
 use Rattle.words.proofs.Stepping.{length_content}
 use Rattle.words.proofs.Laws.{rest_whole, step_whole, after_later, after_inside}
 use Rattle.words.proofs.Counting.{words_from, words_next, words_none}
@@ -121,15 +115,8 @@ module _ {one : ℕ → List ℕ} {s : List ℕ} {at place : ℕ} {a b c d a₀ 
       rw f.0 (record { start = omega arith; end = omega (arith, i); white = omega (arith, i); width = omega (arith, b, n, m, length-drop at s) })
 
   -- It always finds one.
-  pub listing_never : (r : Step) → r ≡ step_at s at → OneOf (1 ∷ 2 ∷ []) (tag_of step.the_type r) → ⊥
-  listing_never r e o =
-      let z = e ∙ step_whole s at l p.whole in
-      go r z o
-    where
-      go : (r : Step) → r ≡ Found (word_at s at) (record { 0 = after_word s at }) → OneOf (1 ∷ 2 ∷ []) (tag_of step.the_type r) → ⊥
-      go (Found w f) z o = ⊎_elim (λ z. omega arith) (λ z. omega arith) o
-      go End z o = let y : ◌≡◌ {A = ℕ} 0 1 = cc in omega arith
-      go (Fault f) z o = let y : ◌≡◌ {A = ℕ} 0 1 = cc in omega arith
+  pub listing_never : (r : Step) → r ≡ step_at s at → ((w : Word) (o : Offset) → r ≡ Found w o → ⊥) → ⊥
+  listing_never r e o = o (word_at s at) (record { 0 = after_word s at }) (e ∙ step_whole s at l p.whole)
 
 -- And their number is known by the place reached.
 pub listing_count : {one : ℕ → List ℕ} {s : List ℕ} {at place : ℕ} {a b c d a₀ b₀ c₀ d₀ : List ℕ} (size : ℕ) → ((v : ℕ) → length (one v) ≡ size) → Listing one s at place a b c d a₀ b₀ c₀ d₀ → length s ≤ at → place ≡ size * length (words s)

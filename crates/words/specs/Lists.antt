@@ -1,5 +1,5 @@
 -- Words in lists: "Four lists of 32-bit numbers give start, content end, whitespace length and width, one place a word." And what the finder answers.
-use Rattle.std.specs.Prelude.{◌≡◌, ℕ, ◌+◌, ◌^◌, ◌≤◌, ◌<◌, List, ltb, length}
+use Rattle.std.specs.Prelude.{ℕ, ◌+◌, ◌^◌, ◌≤◌, ◌<◌, List, ltb, length}
 use Rattle.std.proofs.lemmas.List.Edits.{sets}
 use Rattle.units.specs.declared.Answer.{Answer}
 use Rattle.units.specs.Limits.{text_most}
