@@ -1,6 +1,5 @@
 -- The laws of the walk over a line's words: what is met stays in the line, does not depend on what stands before it, and what first fit breaks from there on.
 use mathlib.Core.Path.{◌≡◌, refl, sym, ap, ◌∙◌}
-use mathlib.Core.Logic.{⊎_elim}
 use mathlib.Core.Bool.{Bool, true, false, ◌&&◌}
 use mathlib.Core.List.{List, [], ◌∷◌}
 use Prim.Native.Nat.{ℕ, zero, suc, ◌+◌, ◌-◌, ◌*◌, ◌≤◌, ◌<◌}
@@ -12,8 +11,6 @@ use lib.Seq.{drop-drop}
 use borrow.Author.Tests.{ltb-true, ltb-false}
 use mir.Syntax.{w64}
 use mir.Val.{Fits}
-use types.Run.{OneOf}
-use denote.Enum.Declared.{tag_of}
 use Rattle.units.specs.declared.Offset.{Offset}
 use Rattle.units.specs.Limits.{text_most}
 use Rattle.logic.specs.Count.{count}
@@ -23,10 +20,9 @@ use Rattle.measure.proofs.Laws.{width_bytes}
 use Rattle.first_fit.specs.FirstFit.{flags}
 use Rattle.words.specs.declared.Word.{Word}
 use Rattle.words.specs.declared.Step.{Step}
-use Rattle.words.specs.declared.Step.TheVariants.{Found, End, Fault}
+use Rattle.words.specs.declared.Step.TheVariants.{Found}
 use Rattle.words.specs.Words.{letter, content_end, content, white, after_word, word_at, words, step_at}
 use Rattle.words.specs.Lists.{width_of_word}
-use Rattle.words.specs.contracts.Step as step
 use Rattle.words.proofs.Stepping.{length_content}
 use Rattle.words.proofs.Laws.{rest_whole, step_whole, after_later, after_inside}
 use Rattle.words.proofs.Counting.{words_from, words_next, words_none}

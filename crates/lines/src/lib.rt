@@ -1,6 +1,8 @@
 // The input lines of a text, which are the parts between newlines, and the walk over a line's words that
 // the fill and the check both make. Nothing here changes a text; where first fit breaks a line is said in
 // `specs/`.
+#![tactic(auto)]
+
 ghost use Rattle.std.specs.Prelude.{◌≡◌, ◌≤◌, ◌<◌, length, drop};
 ghost use Rattle.units.specs.Limits.{text_most};
 ghost use Rattle.chars.specs.Utf8.{Whole};
