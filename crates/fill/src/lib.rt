@@ -1,6 +1,8 @@
 // The fill: line breaks put into a text where it stands, by turning spaces into newlines. Follows
 // `fill.rs`: `fill_inplace` has its name there. One pass over the words of each input line, no lists, and
 // nothing copied. Which words there are and where first fit starts a line is said in `lines`.
+#![tactic(auto)]
+
 ghost use Rattle.std.specs.Prelude.{◌≡◌, ◌≤◌, length};
 ghost use Rattle.units.specs.Limits.{text_most};
 ghost use Rattle.chars.specs.Utf8.{Whole};

@@ -1,0 +1,44 @@
+-- `fill_line`: by the laws of `Filling`, one for each way into, round and out of the loop.
+use Prim.Native.Nat.{◌-◌}
+use Rattle.fill.proofs.Filling.{filling}
+use borrow.Author.Rules.{rules}
+use Rattle.fill.proofs.fill_line.Goals as goal
+
+pub loop-at-init : goal.loop-at-init
+loop-at-init c = search (filling, rules)
+
+pub meet-met-requires : goal.meet-met-requires
+meet-met-requires c = search (filling, rules)
+
+pub starts_line-requires : goal.starts_line-requires
+starts_line-requires c = search (filling, rules)
+
+pub overflow_sub-line : goal.overflow_sub-line
+overflow_sub-line c = search (filling, rules)
+
+pub bounds-line-start : goal.bounds-line-start
+bounds-line-start c = search (filling, rules)
+
+pub overflow_add-changed : goal.overflow_add-changed
+overflow_add-changed c = search (filling, rules)
+
+pub loop-at-smaller-then-starts_line : goal.loop-at-smaller-then-starts_line
+loop-at-smaller-then-starts_line c = search (filling, rules)
+
+pub loop-at-preserved-then-starts_line : goal.loop-at-preserved-then-starts_line
+loop-at-preserved-then-starts_line c = search (filling, rules)
+
+pub overflow_add-columns : goal.overflow_add-columns
+overflow_add-columns c = search (filling, rules)
+
+pub loop-at-smaller : goal.loop-at-smaller
+loop-at-smaller c = search (filling, rules)
+
+pub loop-at-preserved : goal.loop-at-preserved
+loop-at-preserved c = search (filling, rules)
+
+pub shape_of-line : goal.shape_of-line
+shape_of-line c = search (filling, rules)
+
+pub returns : goal.returns
+returns c = search (filling, rules)
