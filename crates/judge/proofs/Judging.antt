@@ -12,7 +12,6 @@ use mir.Val.{Fits}
 use Rattle.units.specs.declared.Offset.{Offset}
 use Rattle.units.specs.Limits.{text_most}
 use Rattle.logic.specs.Choice.{pick}
-use Rattle.logic.proofs.Choice.{both}
 use Rattle.chars.specs.Utf8.{Whole}
 use Rattle.first_fit.specs.FirstFit.{flags}
 use Rattle.first_fit.specs.Groupings.{fit, started}

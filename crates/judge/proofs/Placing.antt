@@ -1,7 +1,7 @@
 -- What `placed` and `many_next` answer, one law for each way through them.
 use mathlib.Core.Path.{◌≡◌}
 use mathlib.Core.Bool.{Bool, true, false}
-use Prim.Native.Nat.{ℕ, ◌+◌, ◌-◌}
+use Prim.Native.Nat.{ℕ, ◌+◌}
 use native.Mathlib.Numerals.{add-one}
 use Rattle.units.specs.declared.Offset.{Offset}
 use Rattle.lines.specs.declared.Met.{Met}

@@ -1,8 +1,7 @@
 -- The loop over the input lines of a text: what is found in those still to come, after what was found, is what is found in all.
 use mathlib.Core.Path.{◌≡◌, refl, sym, ap, ◌∙◌}
-use mathlib.Core.Logic.{⊎_elim}
 use mathlib.Core.Bool.{Bool, true, false}
-use mathlib.Core.List.{List, [], ◌∷◌}
+use mathlib.Core.List.{List, ◌∷◌}
 use Prim.Native.Nat.{ℕ, suc, ◌+◌, ◌-◌, ◌≤◌, ◌<◌}
 use native.Mathlib.Numerals.{add-one}
 use native.Mathlib.Omega.{arith}
@@ -21,7 +20,6 @@ use Rattle.judge.specs.declared.Found.TheVariants.{At, Nowhere}
 use Rattle.judge.specs.declared.Lined.{Lined}
 use Rattle.judge.specs.declared.Lined.TheVariants.{Good, Wide, Many}
 use Rattle.judge.specs.declared.Judged.TheVariants.{Accepted, WideLine, ManyLines}
-use Rattle.judge.specs.contracts.Lined as lined
 use Rattle.judge.specs.Judge.{many_of, lined_by, lined_of, wide_in, many_in, or_else, first_in, lines_of, many_next}
 
 pub record Reading (width : ℕ) (before after : List ℕ) (many : Found) (at : ℕ) : Type 0 where

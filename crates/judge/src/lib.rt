@@ -3,6 +3,8 @@
 // line having more lines than needed. What is wrong with a changed byte is a function of its own.
 //
 // Nothing here fills a text, and a layout need not be the one that first fit would write.
+#![tactic(auto)]
+
 ghost use Rattle.std.specs.Prelude.{◌≡◌, ◌+◌, ◌-◌, ◌≤◌, ◌<◌, false, length, get_or};
 ghost use Rattle.units.specs.Limits.{text_most};
 ghost use Rattle.logic.specs.Choice.{pick};

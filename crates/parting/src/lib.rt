@@ -1,6 +1,8 @@
 // Where a text and what is thought to have come of it part: the first byte that is neither the same in
 // both nor a space that is a newline now. It serves a person who looks for words that are missing; whether
 // a fill is right is for `judge` to say.
+#![tactic(auto)]
+
 ghost use Rattle.std.specs.Prelude.{◌≡◌};
 ghost use Rattle.parting.specs.Parting.{goes_on, parts_at};
 
