@@ -1,19 +1,16 @@
 -- First fit has the fewest lines over all groupings at one width, and a larger width never needs more. Layouts are told by flags; groupings come in by two conversions.
-use mathlib.Core.Path.{◌≡◌, refl, sym, ap, ◌∙◌, subst}
-use mathlib.Core.Logic.{◌↔◌}
+use mathlib.Core.Path.{◌≡◌, refl, ap, ◌∙◌, subst}
 use mathlib.Core.Bool.{Bool, true, false}
 use mathlib.Core.List.{List, [], ◌∷◌, ◌++◌, append-nil}
-use Prim.Native.Nat.{ℕ, suc, ◌+◌, ◌≤◌, ◌<◌, max, min}
+use Prim.Native.Nat.{ℕ, suc, ◌+◌, ◌≤◌, max}
 use native.Mathlib.Nat.{le_trans}
 use native.Mathlib.Omega.{arith}
-use lib.Dec.{ltb}
 use lib.ListN.{length}
 use borrow.Author.Tests.{ltb-true, ltb-false}
-use Rattle.logic.specs.Choice.{pick}
 use Rattle.logic.proofs.Choice.{both}
 use Rattle.fragments.specs.Fragments.{Fragment}
 use Rattle.first_fit.specs.FirstFit.{flags}
-use Rattle.first_fit.specs.Groupings.{line_width, Good, AllGood, joined, Grouping, too_wide, columns_after, fit, started, line_count, cut, lines, Fits}
+use Rattle.first_fit.specs.Groupings.{line_width, Good, AllGood, joined, Grouping, too_wide, fit, started, line_count, cut, lines, Fits}
 use Rattle.first_fit.specs.Groupings.Fits.{none, fresh, join}
 
 -- ---- first fit among the layouts that fit
@@ -60,7 +57,7 @@ count_wider v w (f ∷ r) h = omega (arith, fit_wider v w (f.word + f.white) r h
 
 -- ---- from flags to groupings
 
-lines_joined : (f : Fragment) {w c : ℕ} {r : List Fragment} {b : List Bool} → Fits w c r b → joined (lines f r b) ≡ f ∷ r
+lines_joined : {w : ℕ} (f : Fragment) {c : ℕ} {r : List Fragment} {b : List Bool} → Fits w c r b → joined (lines f r b) ≡ f ∷ r
 unfolding joined cut
 lines_joined f none = refl
 lines_joined f (fresh {f = g} h) = ap (λ l. f ∷ l) (lines_joined g h)
@@ -72,7 +69,7 @@ lines_count none = refl
 lines_count (fresh h) = ap suc (lines_count h)
 lines_count (join k h) = lines_count h
 
-lines_good : (p : ℕ) (f : Fragment) {w c : ℕ} {r : List Fragment} {b : List Bool} → Fits w c r b → c ≡ p + (f.word + f.white)
+lines_good : {w : ℕ} (p : ℕ) (f : Fragment) {c : ℕ} {r : List Fragment} {b : List Bool} → Fits w c r b → c ≡ p + (f.word + f.white)
     → (p + f.word ≤ w → p + line_width (f ∷ (cut r b).0) ≤ w) × AllGood w (cut r b).1 × (p ≡ 0 → Good w (f ∷ (cut r b).0))
 unfolding cut line_width Good AllGood
 lines_good p f none e = (λ h. h, tt, λ z. tt)
@@ -117,11 +114,11 @@ first_le g [] = omega arith
 first_le g (h ∷ l) = omega arith
 
 -- the words of a line that is wide enough join it
-run_fits : {w c : ℕ} (p : ℕ) (f : Fragment) (l : List Fragment) {r : List Fragment} {b : List Bool} → ((c : ℕ) → Fits w c r b)
+run_fits : {w : ℕ} (p : ℕ) (f : Fragment) (l : List Fragment) {c : ℕ} {r : List Fragment} {b : List Bool} → ((c : ℕ) → Fits w c r b)
     → c ≡ p + (f.word + f.white) → p + line_width (f ∷ l) ≤ w → Fits w c (l ++ r) (falses l b)
 unfolding falses line_width
 run_fits p f [] k e h = k _
-run_fits {c = c} p f (g ∷ l) k e h =
+run_fits p f (g ∷ l) {c = c} k e h =
     join {c = c} {f = g} (omega (arith, first_le g l)) (run_fits (p + (f.word + f.white)) g l k (omega arith) (omega arith))
 
 line_fits : {w : ℕ} (f : Fragment) (l : List Fragment) {r : List Fragment} {b : List Bool} → Good w (f ∷ l) → ((c : ℕ) → Fits w c r b)

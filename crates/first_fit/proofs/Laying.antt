@@ -2,19 +2,18 @@
 use mathlib.Core.Path.{◌≡◌, refl, sym, ap, ◌∙◌}
 use mathlib.Core.Bool.{Bool, true, false}
 use mathlib.Core.List.{List, [], ◌∷◌}
-use Prim.Native.Nat.{ℕ, zero, suc, ◌+◌, ◌*◌, ◌≤◌, ◌<◌, max}
+use Prim.Native.Nat.{ℕ, suc, ◌+◌, ◌*◌, ◌≤◌, ◌<◌, max}
 use native.Mathlib.Numerals.{add-one}
 use native.Mathlib.Omega.{arith}
 use lib.Dec.{ltb}
 use lib.ListN.{length, get_or, set, drop, drop_of_length-le}
 use lib.Seq.{sets}
-use Rattle.logic.specs.Choice.{pick}
 use Rattle.logic.specs.Flat.{flat, alone}
 use Rattle.logic.proofs.Stored.{Stored, stored_start, stored_step, stored_end, flat_alone}
 use Rattle.fragments.specs.Fragments.{Fragment, fragments}
 use Rattle.fragments.specs.Lists.{width_of}
 use Rattle.fragments.proofs.Laws.{fragments_length, fragments_at}
-use Rattle.first_fit.specs.FirstFit.{flags, ends_from, Line, starts, step, begun, line_ends}
+use Rattle.first_fit.specs.FirstFit.{flags, ends_from, starts, step, begun, line_ends}
 
 -- The ends from fragment i on, where line `line` has so many columns already.
 unfoldable pub rest : List ℕ → List Fragment → (i line columns : ℕ) → List ℕ

@@ -1,6 +1,8 @@
 // First fit over lent lists: each fragment joins the line before it if it fits there. Follows
 // `wrap_first_fit` of `wrap_algorithms.rs`. The theory of groupings stands in `specs/` and `proofs/`: no
 // grouping has fewer lines than first fit.
+#![tactic(auto)]
+
 ghost use Rattle.std.specs.Prelude.{◌≡◌, ◌+◌, ◌≤◌, ◌<◌, ltb, length};
 ghost use Rattle.std.proofs.lemmas.List.Edits.{sets};
 ghost use Rattle.fragments.specs.Fragments.{fragments};
