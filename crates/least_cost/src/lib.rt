@@ -1,6 +1,8 @@
 // Least-cost layouts of fragments, as `wrap_optimal_fit` of `optimal_fit.rs`: for each end the start whose
 // price is least, the smallest of equals. The lines and what they cost are by the definitions of `specs/`;
 // nothing here knows texts.
+#![tactic(auto)]
+
 ghost use Rattle.std.specs.Prelude.{◌≡◌, true, ◌+◌, ◌*◌, ◌^◌, ◌≤◌, ◌<◌, max, length, get_or, replicate};
 ghost use Rattle.std.proofs.lemmas.List.Edits.{sets};
 ghost use Rattle.cheapest.specs.Least.{Cheapest};

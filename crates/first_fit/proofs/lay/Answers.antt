@@ -12,15 +12,13 @@ loop-i-init c =
 
 pub loop-i-preserved-then-starts_line : goal.loop-i-preserved-then-starts_line
 loop-i-preserved-then-starts_line c =
-    let b = c in
-    laying_break alone _ _ _ _ b.loop-i.invariant (search rules) b.number_at-word.ensures.0 b.number_at-in-loop-i.ensures.0
-    b.number_at-in-loop-i-2.ensures.0 b.starts_line.ensures (search rules) (search rules) (search rules) c.put_end.ensures c.width_of-width-then-starts_line.ensures.0
+    laying_break alone _ _ _ _ c.loop-i.invariant (search rules) c.number_at-word.ensures.0 c.number_at-in-loop-i.ensures.0
+    c.number_at-in-loop-i-2.ensures.0 c.starts_line.ensures (search rules) (search rules) (search rules) c.put_end.ensures c.width_of-width-then-starts_line.ensures.0
 
 pub loop-i-preserved : goal.loop-i-preserved
 loop-i-preserved c =
-    let b = c in
-    laying_join alone _ _ _ _ b.loop-i.invariant (search rules) b.number_at-word.ensures.0 b.number_at-in-loop-i.ensures.0
-    b.number_at-in-loop-i-2.ensures.0 b.starts_line.ensures (search rules) (search rules) (search rules)
+    laying_join alone _ _ _ _ c.loop-i.invariant (search rules) c.number_at-word.ensures.0 c.number_at-in-loop-i.ensures.0
+    c.number_at-in-loop-i-2.ensures.0 c.starts_line.ensures (search rules) (search rules) (search rules)
 
 pub returns : goal.returns
 returns c =

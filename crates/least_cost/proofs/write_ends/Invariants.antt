@@ -1,0 +1,9 @@
+-- `write_ends`: the ends written and those still to come are all of them (`Writing`).
+use Rattle.least_cost.proofs.Writing.{Writing}
+use Rattle.least_cost.proofs.write_ends.Given as goal
+
+abbrev pub invariant-loop-end : goal.invariant-loop-end
+invariant-loop-end l = Writing l.starts l.n l.initial.ends l.ends l.line l.end
+
+abbrev pub decreases-loop-end : goal.decreases-loop-end
+decreases-loop-end l = l.end
