@@ -1,5 +1,7 @@
 // Numbers as people write them: whether a row of bytes is one, and which. What a number counts is not
 // known here; one that is larger than any bound of document 01 stands for all that are.
+#![tactic(auto)]
+
 ghost use Rattle.std.specs.Prelude.{◌≡◌, ◌≤◌};
 ghost use Rattle.decimal.specs.Decimal.{digit, worth, with_digit, decimal, is_number};
 

@@ -1,6 +1,8 @@
 // Lines are put together in a buffer that the caller lends: each function here adds bytes after those that
 // the buffer holds, and answers how many it holds then. What a line says is decided by who calls; nothing
 // is written to a file here.
+#![tactic(auto)]
+
 ghost use Rattle.std.specs.Prelude.{◌∷◌, [], ◌++◌, ◌+◌, ◌≤◌, length, replicate};
 ghost use Rattle.saying.specs.Saying.{Said, number_most, decimal_of};
 
