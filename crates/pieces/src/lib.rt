@@ -3,6 +3,8 @@
 //
 // Breaking is a step, the next piece from an offset, which counting and writing share. Nothing here lays
 // pieces out.
+#![tactic(auto)]
+
 ghost use Rattle.std.specs.Prelude.{◌≡◌, ◌≤◌, min, map, length};
 ghost use Rattle.std.proofs.lemmas.List.Edits.{sets};
 ghost use Rattle.units.specs.Limits.{text_most};
