@@ -2,7 +2,7 @@
  * kenupatun.h: Kenupatun for C and C++.
  *
  * The functions stand in the archive libkenupatun.a, which
- * `rt staticlib kenupatun` writes. They keep no memory between calls, allocate
+ * `tools/make archive` writes. They keep no memory between calls, allocate
  * nothing and may be called from several threads at once.
  *
  * A text is a pointer, which is never NULL, and a number of bytes. No final 0 is

@@ -1,4 +1,4 @@
-//! Links `libkenupatun.a`, which `rt staticlib kenupatun` writes to `target/staticlib`
+//! Links `libkenupatun.a`, which `tools/make archive` writes to `target/staticlib`
 //! at the root of the repository. `KENUPATUN_LIB_DIR` names another folder.
 
 use std::env;
@@ -14,7 +14,7 @@ fn main() {
     println!("cargo:rerun-if-changed={}", archive.display());
     assert!(
         archive.is_file(),
-        "there is no {}: run `rt staticlib kenupatun` at the root of the repository first",
+        "there is no {}: run `tools/make archive` at the root of the repository first",
         archive.display()
     );
     println!("cargo:rustc-link-search=native={}", folder.display());

@@ -1,7 +1,7 @@
 //! The job program, held against a plain reading of document 01's section "Job program", in which the
 //! crate `textwrap` fills and Rust says what is UTF-8.
 //!
-//! `rt check job` makes the program (`target/bin/job` at the root of the repository). Every byte that it
+//! `tools/make job` makes the program (`target/bin/job` at the root of the repository). Every byte that it
 //! writes is compared. `KENUPATUN_SEED` and `KENUPATUN_CASES` set the random cases (see `generate`).
 
 mod program;

@@ -1,7 +1,7 @@
 //! The program `wordlist`, held against the crate `textwrap` and Rust's own test of UTF-8: the reader, and
 //! the forms on lists of 32-bit numbers, which C does not get.
 //!
-//! `rt check wordlist` makes the program (`target/bin/wordlist` at the root of the repository). It is
+//! `tools/make wordlist` makes the program (`target/bin/wordlist` at the root of the repository). It is
 //! given many texts at once, and all that it writes is compared. `KENUPATUN_SEED` and `KENUPATUN_CASES`
 //! set the random cases (see `generate`); `KENUPATUN_RUN` names an emulator, where one is needed.
 

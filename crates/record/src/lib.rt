@@ -1,6 +1,8 @@
 // The records of the job program, on bytes: what a job's head asks for, what is answered to a job, and
 // the bytes of a reply. All that the program decides is decided here; the program itself only moves
 // bytes. How a text is filled stands in `fill`.
+#![tactic(auto)]
+
 ghost use Rattle.std.specs.Prelude.{◌≡◌, ◌<◌, ◌+◌, ◌*◌, ◌/◌, ◌%◌};
 ghost use Rattle.record.specs.Record.{is_job, head_of, kept_of, past_of, reply_head, reply_of, text_after, settled};
 

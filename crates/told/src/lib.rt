@@ -1,5 +1,7 @@
 // The lines of answers: what is written where nothing is refused. A word's line has its numbers; the bytes
 // of its content come after them and are not made here, and neither is the line of a refusal.
+#![tactic(auto)]
+
 ghost use Rattle.std.specs.Prelude.{◌≡◌, ◌+◌, ◌≤◌, length};
 ghost use Rattle.std.proofs.lemmas.List.Edits.{sets};
 ghost use Rattle.saying.specs.Saying.{Said, number_most};
