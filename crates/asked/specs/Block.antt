@@ -1,5 +1,5 @@
 -- The arguments as one row of bytes: each argument, and a byte 0 after it. A word is what stands before a 0, or before the end.
-use Rattle.std.specs.Prelude.{ℕ, suc, ◌+◌, ◌-◌, Bool, true, false, ◌&&◌, not, List, [], ◌∷◌, eqb, ltb, length, take, drop}
+use Rattle.std.specs.Prelude.{ℕ, ◌+◌, ◌-◌, Bool, true, false, ◌&&◌, not, List, [], ◌∷◌, eqb, ltb, length, take, drop}
 use Rattle.logic.specs.Choice.{pick}
 use Rattle.logic.specs.Count.{count}
 use Rattle.asked.specs.declared.Part.{Part}

@@ -4,10 +4,8 @@ use Rattle.std.specs.Prelude.{ℕ, Bool, ◌&&◌, ◌||◌, List, eqb, leb, len
 use Rattle.logic.specs.Choice.{pick}
 use Rattle.saying.specs.Ascii.{ascii}
 use Rattle.decimal.specs.Decimal.{decimal, is_number}
-use Rattle.asked.specs.declared.Part.{Part}
 use Rattle.asked.specs.declared.File.{File}
 use Rattle.asked.specs.declared.File.TheVariants.{Input, Named}
-use Rattle.asked.specs.declared.Wrong.{Wrong}
 use Rattle.asked.specs.declared.Wrong.TheVariants.{NoCommand, NoSuchCommand, NotWidth, TooFew, TooMany, BothInput, TooLong}
 use Rattle.asked.specs.declared.Command.{Command}
 use Rattle.asked.specs.declared.Command.TheVariants as command

@@ -1,6 +1,8 @@
 // What the arguments of `slip` ask for, by their bytes alone: each argument is followed by a byte 0, which
 // no argument holds. Which command it is, of what width, and which words name files is decided here; no
 // file is opened, and nothing is written.
+#![tactic(auto)]
+
 ghost use Rattle.std.specs.Prelude.{◌≡◌, ◌≤◌, length};
 ghost use Rattle.decimal.specs.Decimal.{decimal, is_number};
 ghost use Rattle.asked.specs.Block.{in_word, end_at, after_of, word_at, part_at, same, run_after, runs_over};
