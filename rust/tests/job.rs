@@ -90,7 +90,7 @@ fn the_whole_example() {
     hold(EXAMPLE);
 }
 
-/// The runs that `rt check` makes: what the programs must write there is what this reading says.
+/// The runs that `rt ci` makes: what the programs must write there is what this reading says.
 #[test]
 fn the_stored_runs() {
     let stored = |name: &str| std::fs::read(root().join("crates").join(name)).unwrap();

@@ -157,7 +157,7 @@ fn hold_random(cases: u64, make: impl Fn(&mut Rng) -> Vec<u8>) {
 
 // ---- the texts
 
-/// The run that `rt check` makes of the program: what it must write is what the crate says.
+/// The run that `rt ci` makes of the program: what it must write is what the crate says.
 #[test]
 fn the_stored_run() {
     let stored = |name: &str| std::fs::read(root().join("crates/wordlist").join(name)).unwrap();

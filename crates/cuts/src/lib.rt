@@ -1,6 +1,8 @@
 // Where the printer cuts a line: how much of it stands within the paper, and what is dropped. A line is
 // made of words, and its columns are those of the words and of the whitespace between them, as the check
 // has them; a line of one word may be too wide too. Nothing here writes a line.
+#![tactic(auto)]
+
 ghost use Rattle.std.specs.Prelude.{◌≡◌, ◌-◌, ◌≤◌, ◌<◌, length, drop};
 ghost use Rattle.units.specs.Limits.{text_most};
 ghost use Rattle.chars.specs.Utf8.{Whole};

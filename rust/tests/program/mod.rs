@@ -1,4 +1,4 @@
-//! Programs for x86-64, run: those that `rt check` makes, on an input.
+//! Programs for x86-64, run: those that `tools/make` makes, on an input.
 
 use std::env;
 use std::io::Write as _;
@@ -25,11 +25,11 @@ pub fn command(program: &Path) -> Command {
     }
 }
 
-/// What a program that `rt check` makes writes on an input that comes in parts, with a pause after each but the last.
+/// What a program that `tools/make` makes writes on an input that comes in parts, with a pause after each but the last.
 #[allow(dead_code)]
 pub fn written_on(name: &str, words: &[String], parts: Vec<Vec<u8>>) -> Vec<u8> {
     let program = root().join("target/bin").join(name);
-    assert!(program.is_file(), "there is no {}: run `rt check {name}` first", program.display());
+    assert!(program.is_file(), "there is no {}: run `tools/make {name}` first", program.display());
     let mut child = command(&program).args(words).stdin(Stdio::piped()).stdout(Stdio::piped()).spawn().unwrap();
     let mut stdin = child.stdin.take().unwrap();
     // the program may stop before the end of its input: then a write fails, and that is no fault
