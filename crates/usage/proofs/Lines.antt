@@ -1,9 +1,9 @@
 -- What is said of misuse and of use, one law for each way to it.
 use mathlib.Core.Path.{◌≡◌}
-use mathlib.Core.List.{List, [], ◌∷◌, ◌++◌}
+use mathlib.Core.List.{List, [], ◌∷◌}
 use Prim.Native.Nat.{ℕ, ◌+◌, ◌≤◌}
 use native.Mathlib.Omega.{arith}
-use lib.ListN.{length, get_or, get_or-eq_default}
+use lib.ListN.{get_or-eq_default}
 use Rattle.saying.specs.Saying.{Said}
 use Rattle.saying.proofs.Laws.{said_then, said_none}
 use Rattle.asked.specs.declared.Wrong.{Wrong}

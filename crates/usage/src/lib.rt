@@ -1,5 +1,7 @@
 // What `slip` says of its own use, line by line in a lent buffer: what is wrong with the arguments, and how
 // it is used. What is wrong is decided in `asked`; nothing here writes to a file.
+#![tactic(auto)]
+
 ghost use Rattle.std.specs.Prelude.{◌+◌, ◌≤◌, length};
 ghost use Rattle.saying.specs.Saying.{Said};
 ghost use Rattle.usage.specs.Usage.{wrong_most, wrong_words, misuse_line, usage_most, usage_line};
