@@ -17,7 +17,7 @@ use Rattle.measure.proofs.Walk.{unstopped}
 use Rattle.words.specs.declared.Word.{Word}
 use Rattle.words.specs.declared.Step.{Step}
 use Rattle.words.specs.declared.Step.TheVariants.{Found}
-use Rattle.words.specs.Words.{content, content_end, white, after_word, word_at, words, step_at}
+use Rattle.words.specs.Words.{content, content_end, after_word, word_at, words, step_at}
 use Rattle.words.specs.Lists.{start_of, end_of}
 use Rattle.words.proofs.Stepping.{length_content}
 use Rattle.words.proofs.Laws.{rest_whole, step_whole, after_later, after_inside}

@@ -1,6 +1,8 @@
 // A refusal as a person reads it: one line with its number, the place where it is found, and a sentence in
 // plain words. The sentences for all refusals stand here and in specs/Sentences.antt; docs/REFUSALS.md has
 // the same for the handbook. When a refusal comes is not decided here.
+#![tactic(auto)]
+
 ghost use Rattle.std.specs.Prelude.{◌≡◌, ◌+◌, ◌≤◌, min, length};
 ghost use Rattle.saying.specs.Saying.{Said};
 ghost use Rattle.refusals.specs.Places.{starts_character, spot_of};

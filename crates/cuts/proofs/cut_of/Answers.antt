@@ -1,5 +1,4 @@
 -- `cut_of`: by the laws of `Cutting`, one for each way into, round and out of the loop.
-use Prim.Native.Nat.{◌-◌}
 use Rattle.cuts.proofs.Cutting.{cutting}
 use borrow.Author.Rules.{rules}
 use Rattle.cuts.proofs.cut_of.Goals as goal
