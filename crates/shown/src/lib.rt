@@ -4,6 +4,8 @@
 //
 // An escape takes no column on the printer. Shown in its place it takes some, so the rest of that row
 // stands further to the right than on the paper.
+#![tactic(auto)]
+
 ghost use Rattle.std.specs.Prelude.{◌≡◌, ◌+◌, ◌-◌, ◌*◌, ◌%◌, ◌≤◌, length, get_or, drop};
 ghost use Rattle.units.specs.Limits.{text_most, width_most};
 ghost use Rattle.chars.specs.Utf8.{Whole};
