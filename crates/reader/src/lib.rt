@@ -4,6 +4,8 @@
 // `open_at` and `turn_at` do the work, on the text and the offset as plain parameters. `open`, `look`
 // and `go_on` are the same over the struct that holds the text, and `next_of` goes through it for a
 // caller that has none.
+#![tactic(auto)]
+
 ghost use Rattle.std.specs.Prelude.{◌≡◌, ltb, length};
 ghost use Rattle.units.specs.Limits.{text_most};
 ghost use Rattle.reader.specs.Reader.{opening_of, answer_of, turn_of, stay};
