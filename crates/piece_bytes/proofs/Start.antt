@@ -1,5 +1,4 @@
 -- How the loop over lists of bytes starts. All else is said of any lists (`Listing` of pieces).
-use mathlib.Core.Path.{◌≡◌}
 use mathlib.Core.List.{List}
 use Prim.Native.Nat.{ℕ, ◌*◌}
 use native.Mathlib.Omega.{arith}

@@ -1,5 +1,7 @@
 // Breaking for callers that pass byte slices: the four lists are bytes, a number of 32 bits taking four,
 // high first, as in `word_bytes`.
+#![tactic(auto)]
+
 ghost use Rattle.std.specs.Prelude.{◌≡◌, ◌*◌, ◌/◌, ◌≤◌, min, map, length};
 ghost use Rattle.std.proofs.lemmas.List.Edits.{sets};
 ghost use Rattle.units.specs.Limits.{text_most};

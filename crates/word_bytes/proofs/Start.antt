@@ -1,7 +1,7 @@
 -- How a loop over lists of bytes starts: room for the words is room for four bytes a number. All else is said of any lists (`Storing` of words).
 use mathlib.Core.Path.{◌≡◌, refl, sym, ◌∙◌}
 use mathlib.Core.List.{List, [], ◌∷◌, map}
-use Prim.Native.Nat.{ℕ, suc, min, ◌*◌, ◌/◌, ◌≤◌}
+use Prim.Native.Nat.{ℕ, min, ◌*◌, ◌/◌, ◌≤◌}
 use native.Mathlib.Omega.{arith}
 use lib.ListN.{length}
 use Rattle.logic.specs.Flat.{flat}

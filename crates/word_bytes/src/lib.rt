@@ -1,5 +1,7 @@
 // The word finder for callers that pass byte slices: the four lists are bytes, a number of 32 bits taking
 // four, high first. A list's places are its bytes divided by four; what is left over is not touched.
+#![tactic(auto)]
+
 ghost use Rattle.std.specs.Prelude.{◌≡◌, ◌*◌, ◌/◌, ◌≤◌, min, map, length};
 ghost use Rattle.std.proofs.lemmas.List.Edits.{sets};
 ghost use Rattle.units.specs.Limits.{text_most};
