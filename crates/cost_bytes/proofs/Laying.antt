@@ -1,12 +1,11 @@
 -- The layout of numbers, stored as bytes: the entry's answer on lists of its own is the answer for the lists of bytes, and what it left in them goes over as it stands.
 use mathlib.Core.Path.{◌≡◌, refl, sym, ap, ◌∙◌}
-use mathlib.Core.Bool.{Bool, true, false}
-use mathlib.Core.List.{List, [], ◌∷◌}
-use Prim.Native.Nat.{ℕ, ◌+◌, ◌*◌, ◌≤◌, ◌<◌, min, max}
+use mathlib.Core.List.{List}
+use Prim.Native.Nat.{ℕ, ◌+◌, ◌*◌, ◌≤◌, max}
 use native.Mathlib.Omega.{arith}
 use lib.Dec.{ltb}
 use lib.ListN.{length, take, replicate, length-replicate}
-use lib.Seq.{sets, length-sets}
+use lib.Seq.{sets}
 use borrow.Author.Tests.{le-ltb}
 use Rattle.units.specs.Limits.{width_most, cost_most}
 use Rattle.logic.specs.Choice.{pick}
@@ -20,7 +19,7 @@ use Rattle.fragments.proofs.Laws.{tested_good}
 use Rattle.cheapest.specs.Table.{at}
 use Rattle.least_cost.specs.declared.Penalties.{Penalties}
 use Rattle.least_cost.specs.declared.Admission.TheVariants.{Open}
-use Rattle.least_cost.specs.Layout.{first_big, admission_of, laid_from, ends_after, scratch_after, costs_of, starts_of, ends_of_lines, laid_of, Laying}
+use Rattle.least_cost.specs.Layout.{first_big, admission_of, ends_after, scratch_after, costs_of, starts_of, ends_of_lines, laid_of, Laying}
 use Rattle.least_cost.proofs.Laying.{Opened, open_says}
 use Rattle.least_cost.proofs.Laws.{costs_places, starts_places, ends_few}
 use Rattle.cost_bytes.specs.Bytes.{LaidBytes, admitted, Begun, lines_in}

@@ -1,10 +1,9 @@
 -- What stands at the front of a list after stores, and numbers that are zero as bytes.
 use mathlib.Core.Path.{◌≡◌, refl, sym, ap, ◌∙◌}
-use mathlib.Core.List.{List, [], ◌∷◌, ◌++◌}
+use mathlib.Core.List.{List, [], ◌∷◌}
 use Prim.Native.Nat.{ℕ, zero, suc, ◌+◌, ◌*◌, ◌≤◌}
-use native.Mathlib.Nat.{zero-add}
 use native.Mathlib.Omega.{arith}
-use lib.ListN.{length, take, drop, replicate, length-replicate, length-append}
+use lib.ListN.{length, take, drop, replicate}
 use lib.Seq.{sets, sets-eq, take_at}
 use Rattle.logic.specs.Flat.{flat}
 use Rattle.wire.specs.Wire.{be16, be64}

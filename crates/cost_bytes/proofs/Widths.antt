@@ -1,31 +1,27 @@
 -- Line widths past the 4,096th are never met: line numbers are below the number of fragments. So the widths that are read are enough.
 use mathlib.Core.Path.{◌≡◌, refl, sym, ap, ◌∙◌}
-use mathlib.Core.Logic.{⊎_elim}
-use mathlib.Core.Bool.{Bool, true, false}
+use mathlib.Core.Bool.{Bool}
 use mathlib.Core.List.{List, [], ◌∷◌}
-use Prim.Native.Nat.{ℕ, zero, suc, ◌+◌, ◌≤◌, ◌<◌, min, max}
+use Prim.Native.Nat.{ℕ, zero, suc, ◌+◌, ◌≤◌, ◌<◌, min}
 use native.Mathlib.Omega.{arith}
 use lib.Dec.{leb, ltb}
-use lib.ListN.{length, get_or, take}
+use lib.ListN.{length, take}
 use lib.Seq.{sets, take-length, length-take-le, get_or-take}
 use borrow.Author.Tests.{ltb-true, ltb-false}
 use Rattle.units.specs.Limits.{width_most}
-use Rattle.logic.specs.Choice.{pick}
 use Rattle.logic.specs.Count.{count}
 use Rattle.logic.proofs.Choice.{both}
 use Rattle.fragments.specs.declared.Laid.{Laid}
-use Rattle.fragments.specs.declared.Tested.{Tested}
 use Rattle.fragments.specs.Lists.{width_of, first_above, tested_of}
 use Rattle.fragments.proofs.Laws.{Sound, tested_good, good_tested, width_in}
 use Rattle.cheapest.specs.Least.{first_least}
 use Rattle.cheapest.specs.Lines.{line_of}
-use Rattle.cheapest.specs.Table.{at, via, choice, grown, table_of, best_costs, chosen_starts}
+use Rattle.cheapest.specs.Table.{at, via, choice, table_of, best_costs, chosen_starts}
 use Rattle.cheapest.proofs.Lines.{line_le}
 use Rattle.least_cost.specs.declared.Penalties.{Penalties}
-use Rattle.least_cost.specs.declared.Admission.TheVariants.{Open}
-use Rattle.least_cost.specs.Price.{target, price_at, price}
-use Rattle.least_cost.specs.Layout.{first_big, admission_of, lines_of, costs_of, starts_of, ends_of_lines, laid_of}
-use Rattle.least_cost.proofs.Laying.{Opened, open_says}
+use Rattle.least_cost.specs.Price.{target, price}
+use Rattle.least_cost.specs.Layout.{lines_of, costs_of, starts_of, ends_of_lines}
+use Rattle.least_cost.proofs.Laying.{open_says}
 use Rattle.cost_bytes.specs.Bytes.{LaidBytes, admitted, Begun}
 use Rattle.cost_bytes.proofs.Stores.{take_stored}
 use Rattle.cost_bytes.proofs.Laying.{begun_few, laid_open}

@@ -1,6 +1,8 @@
 // Least cost for callers that pass lists as bytes, high first: 16-bit numbers, and 64-bit costs. The
 // numbers are read into lists of their own, laid out there, and the answer is stored as bytes. A byte left
 // over at the end of a list is no number and is not touched.
+#![tactic(auto)]
+
 ghost use Rattle.std.specs.Prelude.{◌≡◌, ◌≤◌, min, length, take};
 ghost use Rattle.wire.specs.Wire.{numbers16};
 ghost use Rattle.cost_bytes.specs.Bytes.{LaidBytes, Begun, lines_in};

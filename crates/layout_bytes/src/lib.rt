@@ -1,5 +1,7 @@
 // The layouts for callers that pass lists of 16-bit numbers as bytes, high first: the same entries, read
 // from the bytes where they lie. A byte left over at the end of a list is no number and is not touched.
+#![tactic(auto)]
+
 ghost use Rattle.std.specs.Prelude.{◌≡◌, ◌*◌, ◌≤◌, ◌<◌, length};
 ghost use Rattle.std.proofs.lemmas.List.Edits.{sets};
 ghost use Rattle.logic.specs.Flat.{flat};

@@ -171,7 +171,7 @@ module _ (w s p : List ℕ) (P : Penalties) (T C : List ℕ) (widest j : ℕ) wh
         let bar = max widest t in
         let low = price_low P (at T k) Lkj (get_or p (j - 1) 0) k j n in
         let ends : ending_price P (get_or p (i - 1) 0) ≡ e = ap (λ (x : ℕ). ending_price P x) (sym et) in
-        let up_to_lem = h.ready.least i k b h.below in
+        let up_to = h.ready.least i k b h.below in
         let narrow = h.ready.narrow k (omega (arith, h.below)) in
         let split = len_split w s p h.ready.even k i j b h.below h.ready.within in
         let grows = len_grows w s p h.ready.even k i j (omega arith) h.below h.ready.within in

@@ -54,7 +54,7 @@ module _ (S : List ℕ) (n : ℕ) where
       let y : end ≡ 0 = omega arith in
       omega (arith, h.sum, line_zero (at S), ap (λ (k : ℕ). line_of (at S) k) y)
 
-pub ruleset counting-lines = (counted_start, counted_less, counted_step, counted_end)
+pub ruleset counting_lines = (counted_start, counted_less, counted_step, counted_end)
 
 -- E has come of E₀; the lines before `end` are still to be written, and there are `line` of them.
 pub record Writing (S : List ℕ) (n : ℕ) (E₀ E : List ℕ) (line end : ℕ) : Type 0 where
