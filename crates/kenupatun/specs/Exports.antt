@@ -1,5 +1,5 @@
 -- What the functions for C answer and leave in lists of bytes, by the definitions of the entries that they call.
-use Rattle.std.specs.Prelude.{◌≡◌, ℕ, min, List, map, length}
+use Rattle.std.specs.Prelude.{◌≡◌, ℕ, min, List, map}
 use Rattle.units.specs.declared.Answer.{Answer}
 use Rattle.logic.specs.Flat.{flat}
 use Rattle.wire.specs.Wire.{be16, be32, be64, numbers16, places16, places32, places64}

@@ -1,6 +1,8 @@
 // The functions that C calls, as `include/kenupatun.h` declares them, and what turns a word into numbers
 // for it: each hands over what an entry of the crates below answers, in the numbers of document 01. A
 // slice is a pointer and a length; a list of wider numbers is bytes, high first.
+#![tactic(auto)]
+
 ghost use Rattle.std.specs.Prelude.{◌≡◌};
 ghost use Rattle.words.specs.Words.{words};
 ghost use Rattle.words.specs.Lists.{start_of, end_of, white_of, width_of_word};
