@@ -48,4 +48,4 @@ counted_less s {at} {e} {f} l p q =
     let g = after_later s at l in
     omega (arith, a)
 
-pub ruleset counting-words = (counted_start, counted_step, counted_end, counted_less)
+pub ruleset counting_words = (counted_start, counted_step, counted_end, counted_less)
