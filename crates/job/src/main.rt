@@ -2,10 +2,11 @@
 // document 01 says under "Job program".
 //
 //     job < JOBS > REPLIES
-use libc::{STDIN_FILENO, STDOUT_FILENO};
+#![tactic(auto)]
+
 use units::TEXT_MOST;
 
-fn main() {
+fn main(rt: HostRuntime) {
     let mut buffer = [0; TEXT_MOST];
-    jobs::serve(&mut buffer, STDIN_FILENO, STDOUT_FILENO);
+    jobs::serve(&mut buffer, &mut rt.stdin(), &mut rt.stdout());
 }

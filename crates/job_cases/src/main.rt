@@ -1,24 +1,52 @@
 // The job program on inputs that stop it: it runs on each file that an argument names, with a buffer of
 // its own, and writes the file's name on a line, the replies, and a newline.
-use libc::STDOUT_FILENO;
+#![tactic(auto)]
+
+use std::env::{Env, FillError};
+use std::io::Write;
 use units::TEXT_MOST;
 
-// Runs the job program on the file that an argument names.
-fn run(k: usize) {
-    let mut path = io::buffer();
-    let n = os::arg(k, &mut path);
-    io::write_all(STDOUT_FILENO, &path[..n]);
-    io::write_all(STDOUT_FILENO, b"\n");
-    let input = os::open_read(&path[..n]);
+// The bytes of an argument that are looked at: no path has more.
+const PATH_ROOM: usize = 4096;
+
+// Runs the job program on a file; on nothing where it cannot be opened.
+fn serve_file(rt: &HostRuntime, path: &[u8]) {
     let mut buffer = [0; TEXT_MOST];
-    jobs::serve(&mut buffer, input, STDOUT_FILENO);
-    libc::close(input);
-    io::write_all(STDOUT_FILENO, b"\n");
+    let Ok(mut input) = streams::open(rt, path) else {
+        return;
+    };
+    jobs::serve(&mut buffer, &mut input, &mut rt.stdout());
 }
 
-fn main() {
-    let count = os::arg_count();
-    for k in 1..count {
-        run(k);
+// Runs the job program on the file that an argument names.
+fn run(rt: &HostRuntime, path: &[u8]) {
+    put(rt, path);
+    put(rt, b"\n");
+    serve_file(rt, path);
+    put(rt, b"\n");
+}
+
+// Writes bytes; a write that fails is passed over.
+fn put(rt: &HostRuntime, bytes: &[u8]) {
+    let _ = rt.stdout().write_all(bytes);
+}
+
+// Runs the job program on the file that an argument names. Answers whether there is such an argument.
+fn run_named(rt: &HostRuntime, k: usize) -> bool {
+    let mut path = [0u8; PATH_ROOM];
+    match rt.arg(k, &mut path) {
+        Ok(n) => run(rt, &path[..n]),
+        // no file has such a name
+        Err(FillError::TooLong) => run(rt, b""),
+        Err(FillError::NotPresent) => return false,
+    }
+    true
+}
+
+fn main(rt: HostRuntime) {
+    for k in 1..usize::MAX {
+        if !run_named(&rt, k) {
+            break;
+        }
     }
 }

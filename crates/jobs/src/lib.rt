@@ -1,20 +1,23 @@
 // The job program's work, between an input and an output that are open: it only moves bytes. What they
 // mean, what is answered and when to stop is decided by `record`. It stands apart from `job`, so that the
 // cases of `job_cases` run the same code.
+#![tactic(auto)]
+
 ghost use Rattle.std.specs.Prelude.{◌≡◌, ◌≤◌, length};
 ghost use Rattle.units.specs.Limits.{text_most};
 
 use record::{HEAD_BYTES, Head, Reply};
+use std::io::{Read, Write};
 
 // Writes a reply, with the text where it is filled, and answers whether to go on: not after a write that
 // failed.
-fn send(output: i32, reply: Reply, text: &[u8]) -> bool {
+fn send<W: Write>(output: &mut W, reply: Reply, text: &[u8]) -> bool {
     let head = reply.head;
-    if !io::write_all(output, &head) {
+    if output.write_all(&head).is_err() {
         return false;
     }
     if reply.filled {
-        if !io::write_all(output, text) {
+        if output.write_all(text).is_err() {
             return false;
         }
     }
@@ -22,16 +25,22 @@ fn send(output: i32, reply: Reply, text: &[u8]) -> bool {
 }
 
 // Reads into a part of the buffer until that is full or the input ends. Answers how many bytes came.
-fn read(input: i32, part: &mut [u8]) -> usize
+fn read<R: Read>(input: &mut R, part: &mut [u8]) -> usize
     requires { length part.old ≤ text_most }
     ensures { result ≤ text_most }
 {
-    io::read_full(input, part)
+    streams::read_full(input, part)
 }
 
 // Reads the text of a job and replies to it. What the buffer cannot hold of a text that is too long is
 // read over its start. Answers whether to go on.
-fn serve_text(buffer: &mut [u8], input: i32, output: i32, width: u8, len: u16) -> bool
+fn serve_text<R: Read, W: Write>(
+    buffer: &mut [u8],
+    input: &mut R,
+    output: &mut W,
+    width: u8,
+    len: u16,
+) -> bool
     requires { length buffer.old ≡ text_most }
 {
     let kept = record::kept(len);
@@ -43,11 +52,11 @@ fn serve_text(buffer: &mut [u8], input: i32, output: i32, width: u8, len: u16) -
 }
 
 // Reads one record and replies to it. Answers whether to go on.
-fn serve_one(buffer: &mut [u8], input: i32, output: i32) -> bool
+fn serve_one<R: Read, W: Write>(buffer: &mut [u8], input: &mut R, output: &mut W) -> bool
     requires { length buffer.old ≡ text_most }
 {
     let mut space = [0u8; HEAD_BYTES];
-    let came = io::read_full(input, &mut space);
+    let came = streams::read_full(input, &mut space);
     let head = record::head_of(&space[..came]);
     match head {
         Head::End => false,
@@ -58,7 +67,7 @@ fn serve_one(buffer: &mut [u8], input: i32, output: i32) -> bool
 
 // Replies to the records of an input, in order, until it ends or `record` says stop. The buffer is for
 // the text of one job at a time.
-pub fn serve(buffer: &mut [u8], input: i32, output: i32)
+pub fn serve<R: Read, W: Write>(buffer: &mut [u8], input: &mut R, output: &mut W)
     requires { length buffer.old ≡ text_most }
 {
     // a proved loop ends: this many records come in no day, and in no thousand years

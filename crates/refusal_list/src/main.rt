@@ -1,6 +1,7 @@
 // Writes the sentence of each refusal on a line, after its number, for the width 42 and texts of 12 and 13
 // bytes; and then some whole lines. `tools/refusals` holds docs/REFUSALS.md against what is written here.
-use libc::STDOUT_FILENO;
+#![tactic(auto)]
+
 use refusals::LINE_MOST;
 use units::Answer;
 
@@ -14,45 +15,52 @@ const SPACE: u8 = 0x20;
 
 const NEWLINE: u8 = 0x0A;
 
+// Writes bytes; a write that fails is passed over.
+fn put(rt: &HostRuntime, bytes: &[u8]) {
+    let _ = rt.write_all(bytes);
+}
+
 // Writes the sentence of a number.
-fn put_sentence(number: u32) {
+fn put_sentence(rt: &HostRuntime, number: u32) {
     let mut line = [0u8; LINE_MOST];
     let first = saying::say_number(&mut line, 0, number as u64);
     let second = saying::say_byte(&mut line, first, SPACE);
     let third = refusals::say_sentence(&mut line, second, number, WIDTH, BEFORE, AFTER);
     let end = saying::say_byte(&mut line, third, NEWLINE);
-    io::write_all(STDOUT_FILENO, &line[..end]);
+    put(rt, &line[..end]);
 }
 
 // Writes the line of a refusal.
-fn put_line(answer: Answer, before: &[u8], after: &[u8]) {
+fn put_line(rt: &HostRuntime, answer: Answer, before: &[u8], after: &[u8]) {
     let mut line = [0u8; LINE_MOST];
     let end = refusals::refusal_line(&mut line, answer, WIDTH, before, after);
-    io::write_all(STDOUT_FILENO, &line[..end]);
+    put(rt, &line[..end]);
 }
 
 // Writes the sentences of the table, and those of the numbers before and after it.
-fn put_sentences() {
+fn put_sentences(rt: &HostRuntime) {
     for number in 0..16 {
-        put_sentence(number);
+        put_sentence(rt, number);
     }
 }
 
-fn main() {
-    put_sentences();
-    put_line(units::refused(11, 0), b"a b", b"a b");
+fn main(rt: HostRuntime) {
+    put_sentences(&rt);
+    put_line(&rt, units::refused(11, 0), b"a b", b"a b");
     put_line(
+        &rt,
         units::refused(10, 7),
         b"abc d\xC3\xA9 f",
         b"abc\nd\xC3\xA9 f",
     );
     put_line(
+        &rt,
         units::refused(12, 8),
         b"abc d\xC3\xA9\nf",
         b"abc\nd\xC3\xA9\nf",
     );
-    put_line(units::refused(2, 3), b"abc\xFF", b"abc\xFF");
-    put_line(units::refused(9, 0), b"abc", b"abcd");
-    put_line(units::refused(3, 0), b"abc", b"abc");
-    put_line(units::refused(1, 60001), b"abc", b"abc");
+    put_line(&rt, units::refused(2, 3), b"abc\xFF", b"abc\xFF");
+    put_line(&rt, units::refused(9, 0), b"abc", b"abcd");
+    put_line(&rt, units::refused(3, 0), b"abc", b"abc");
+    put_line(&rt, units::refused(1, 60001), b"abc", b"abc");
 }

@@ -2,44 +2,47 @@
 //
 //     slip COMMAND ..
 //
-// A program has no exit status. Where the first argument is --status-on-3, the digit of what the run ends
-// with is written to descriptor 3, which tools/slip reads; without it no such descriptor is touched.
+// The exit status is what the run ends with. Where the first argument is --status-on-3, its digit is written
+// to descriptor 3 too, which tools/slip reads; without it no such descriptor is touched.
+#![tactic(auto)]
+
 ghost use Rattle.std.specs.Prelude.{◌≡◌, ◌≤◌, length};
 ghost use Rattle.slips.specs.Rooms.{block_room};
 
-use libc::{STDERR_FILENO, STDIN_FILENO, STDOUT_FILENO};
 use slips::{BLOCK_ROOM, Ends};
+use std::env::Env;
+use std::process::ExitCode;
 
 const STATUS_FILENO: i32 = 3;
 
 // Whether the status is asked for.
-fn wants_status() -> bool {
+fn wants_status(rt: &HostRuntime) -> bool {
     let mut word = [0u8; 16];
-    let n = os::arg(1, &mut word);
-    asked::is_same(&word[..n], b"--status-on-3")
+    match rt.arg(1, &mut word) {
+        Ok(n) => asked::is_same(&word[..n], b"--status-on-3"),
+        Err(_) => false,
+    }
 }
 
 // Does what the arguments from a place on ask for.
-fn run_from(block: &mut [u8], first: usize) -> u8
+fn run_from(rt: &HostRuntime, block: &mut [u8], first: usize) -> u8
     requires { (length block.old ≡ block_room) × (first ≤ 2) }
 {
-    let n = slips::gather(block, first);
-    slips::run(
-        &block[..n],
-        Ends {
-            input: STDIN_FILENO,
-            output: STDOUT_FILENO,
-            error: STDERR_FILENO,
-        },
-    )
+    let n = slips::gather(rt, block, first);
+    let mut ends = Ends {
+        input: rt.stdin(),
+        output: rt.stdout(),
+        error: rt.stderr(),
+    };
+    slips::run(rt, &block[..n], &mut ends)
 }
 
-fn main() {
+fn main(rt: HostRuntime) -> ExitCode {
     let mut block = [0u8; BLOCK_ROOM];
-    if wants_status() {
-        let status = run_from(&mut block, 2);
+    if wants_status(&rt) {
+        let status = run_from(&rt, &mut block, 2);
         io::print_decimal(STATUS_FILENO, status as u64);
-        return;
+        return ExitCode::from(status);
     }
-    run_from(&mut block, 1);
+    ExitCode::from(run_from(&rt, &mut block, 1))
 }

@@ -6,9 +6,10 @@
 //
 // It only moves bytes: what a record asks, whether the answer agrees and how records are counted is decided
 // by `replay`. `rust/vectors` makes the file and says what is in it.
+#![tactic(auto)]
+
 ghost use Rattle.std.specs.Prelude.{◌≡◌, ◌≤◌, length};
 
-use libc::{STDIN_FILENO, STDOUT_FILENO};
 use replay::{HEAD_BYTES, Head, Tally, Verdict};
 
 // The most bytes that a record asks or stores.
@@ -28,52 +29,53 @@ struct State {
 }
 
 // Writes the name of a kind.
-fn put_kind(kind: u8) {
+fn put_kind(rt: &HostRuntime, kind: u8) {
     match kind {
-        b'M' => put(b"measure"),
-        b'W' => put(b"words"),
-        b'A' => put(b"break_apart"),
-        b'B' => put(b"break_words"),
-        b'F' => put(b"first fit"),
-        b'L' => put(b"least cost"),
-        b'I' => put(b"fill"),
-        _ => put(b"no kind"),
+        b'M' => put(rt, b"measure"),
+        b'W' => put(rt, b"words"),
+        b'A' => put(rt, b"break_apart"),
+        b'B' => put(rt, b"break_words"),
+        b'F' => put(rt, b"first fit"),
+        b'L' => put(rt, b"least cost"),
+        b'I' => put(rt, b"fill"),
+        _ => put(rt, b"no kind"),
     }
 }
 
-fn put(text: &[u8]) {
-    io::write_all(STDOUT_FILENO, text);
+// Writes bytes; a write that fails is passed over.
+fn put(rt: &HostRuntime, text: &[u8]) {
+    let _ = rt.write_all(text);
 }
 
-fn put_number(n: u64) {
-    io::print_decimal(STDOUT_FILENO, n);
+fn put_number(rt: &HostRuntime, n: u64) {
+    let _ = rt.print(n);
 }
 
 // Writes how a run of records of one kind came out, if there is one.
-fn put_tally(kind: u8, tally: Tally) {
+fn put_tally(rt: &HostRuntime, kind: u8, tally: Tally) {
     if tally.replayed == 0 {
         return;
     }
-    put_kind(kind);
-    put(b": ");
-    put_number(tally.replayed);
-    put(b" replayed, ");
-    put_number(tally.agreed);
-    put(b" agreed, ");
-    put_number(tally.tied);
-    put(b" tied");
+    put_kind(rt, kind);
+    put(rt, b": ");
+    put_number(rt, tally.replayed);
+    put(rt, b" replayed, ");
+    put_number(rt, tally.agreed);
+    put(rt, b" agreed, ");
+    put_number(rt, tally.tied);
+    put(rt, b" tied");
     if tally.first != 0 {
-        put(b", first that differs: record ");
-        put_number(tally.first);
+        put(rt, b", first that differs: record ");
+        put_number(rt, tally.first);
     }
-    put(b"\n");
+    put(rt, b"\n");
 }
 
 // Writes what ends the replay, and the number of a record.
-fn put_stop(why: &[u8], number: u64) {
-    put(why);
-    put_number(number);
-    put(b"\n");
+fn put_stop(rt: &HostRuntime, why: &[u8], number: u64) {
+    put(rt, why);
+    put_number(rt, number);
+    put(rt, b"\n");
 }
 
 // A run of records before its first.
@@ -87,10 +89,10 @@ fn fresh() -> Tally {
 }
 
 // Writes how the last run came out and why no further record is read.
-fn stopped(state: State, why: &[u8], number: u64) -> State {
+fn stopped(rt: &HostRuntime, state: State, why: &[u8], number: u64) -> State {
     let tally = state.tally;
-    put_tally(state.kind, tally);
-    put_stop(why, number);
+    put_tally(rt, state.kind, tally);
+    put_stop(rt, why, number);
     State {
         kind: NO_KIND,
         tally: fresh(),
@@ -100,27 +102,28 @@ fn stopped(state: State, why: &[u8], number: u64) -> State {
 }
 
 // The run that a record of a kind goes on with: the last one, or a new one after the last is written.
-fn run_of(state: State, kind: u8) -> Tally {
+fn run_of(rt: &HostRuntime, state: State, kind: u8) -> Tally {
     let tally = state.tally;
     if state.kind == kind {
         return tally;
     }
-    put_tally(state.kind, tally);
+    put_tally(rt, state.kind, tally);
     fresh()
 }
 
 // Counts a record by its verdict.
-fn after(state: State, kind: u8, verdict: Verdict) -> State {
+fn after(rt: &HostRuntime, state: State, kind: u8, verdict: Verdict) -> State {
     let number = replay::one_more(state.number);
     match verdict {
         Verdict::Unknown => stopped(
+            rt,
             state,
             b"stopped at a kind that is not known: record ",
             number,
         ),
         Verdict::Turn => {
-            run_of(state, kind);
-            put(b"wrong on purpose from here on\n");
+            run_of(rt, state, kind);
+            put(rt, b"wrong on purpose from here on\n");
             State {
                 kind,
                 tally: fresh(),
@@ -128,9 +131,9 @@ fn after(state: State, kind: u8, verdict: Verdict) -> State {
                 more: true,
             }
         }
-        Verdict::Agreed => counted(run_of(state, kind), kind, verdict, number),
-        Verdict::Tied => counted(run_of(state, kind), kind, verdict, number),
-        Verdict::Differs => counted(run_of(state, kind), kind, verdict, number),
+        Verdict::Agreed => counted(run_of(rt, state, kind), kind, verdict, number),
+        Verdict::Tied => counted(run_of(rt, state, kind), kind, verdict, number),
+        Verdict::Differs => counted(run_of(rt, state, kind), kind, verdict, number),
     }
 }
 
@@ -146,6 +149,7 @@ fn counted(tally: Tally, kind: u8, verdict: Verdict, number: u64) -> State {
 
 // Reads what a record asks and stores, and replays it.
 fn replay_record(
+    rt: &HostRuntime,
     state: State,
     kind: u8,
     width: u8,
@@ -158,44 +162,44 @@ fn replay_record(
 {
     let n = asks as usize;
     let m = stores as usize;
-    let first = read(&mut asked[..n]);
-    let second = read(&mut stored[..m]);
+    let first = read(rt, &mut asked[..n]);
+    let second = read(rt, &mut stored[..m]);
     if replay::is_cut(asks, stores, first + second) {
-        return stopped(state, b"the input is cut after record ", state.number);
+        return stopped(rt, state, b"the input is cut after record ", state.number);
     }
     let verdict = replay::judge(kind, width, &mut asked[..n], &stored[..m]);
-    after(state, kind, verdict)
+    after(rt, state, kind, verdict)
 }
 
 // Reads into a part of a buffer until that is full or the input ends. Answers how many bytes came.
-fn read(part: &mut [u8]) -> usize
+fn read(rt: &HostRuntime, part: &mut [u8]) -> usize
     requires { length part.old ≤ 65535 }
     ensures { result ≤ 65535 }
 {
-    io::read_full(STDIN_FILENO, part)
+    streams::read_full(&mut rt.stdin(), part)
 }
 
 // Reads one record and replays it.
-fn replay_one(state: State, asked: &mut [u8], stored: &mut [u8]) -> State
+fn replay_one(rt: &HostRuntime, state: State, asked: &mut [u8], stored: &mut [u8]) -> State
     requires { (length asked.old ≡ 65535) × (length stored.old ≡ 65535) }
 {
     let mut space = [0u8; HEAD_BYTES];
-    let came = io::read_full(STDIN_FILENO, &mut space);
+    let came = streams::read_full(&mut rt.stdin(), &mut space);
     let head = replay::head_of(&space[..came]);
     match head {
-        Head::End => stopped(state, b"the input ends after record ", state.number),
-        Head::Cut => stopped(state, b"the input is cut after record ", state.number),
+        Head::End => stopped(rt, state, b"the input ends after record ", state.number),
+        Head::Cut => stopped(rt, state, b"the input is cut after record ", state.number),
         Head::Record {
             kind,
             width,
             asked: asks,
             stored: stores,
-        } => { replay_record(state, kind, width, asks, stores, asked, stored) }
+        } => { replay_record(rt, state, kind, width, asks, stores, asked, stored) }
     }
 }
 
 // Replays the records of standard input, in order.
-fn replay_all(asked: &mut [u8], stored: &mut [u8])
+fn replay_all(rt: &HostRuntime, asked: &mut [u8], stored: &mut [u8])
     requires { (length asked.old ≡ 65535) × (length stored.old ≡ 65535) }
 {
     let mut state = State {
@@ -207,13 +211,13 @@ fn replay_all(asked: &mut [u8], stored: &mut [u8])
     // a proved loop ends: this many records come in no day, and in no thousand years
     let mut left = u64::MAX;
     while left > 0 && state.more {
-        state = replay_one(state, asked, stored);
+        state = replay_one(rt, state, asked, stored);
         left -= 1;
     }
 }
 
-fn main() {
+fn main(rt: HostRuntime) {
     let mut asked = [0; PART_MOST];
     let mut stored = [0; PART_MOST];
-    replay_all(&mut asked, &mut stored);
+    replay_all(&rt, &mut asked, &mut stored);
 }

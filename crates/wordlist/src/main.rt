@@ -8,11 +8,13 @@
 // 60,000 unless it is given. For each text four entries are called; of each the numbers of document 01 are
 // written on a line (number, place, count), then a line for each word or piece (start, content end,
 // whitespace length, width). What a word is stands in the crates that are called.
+#![tactic(auto)]
+
 ghost use Rattle.std.specs.Prelude.{◌≡◌, ◌≤◌, min, length};
 ghost use Rattle.wordlist.specs.Wordlist.{answered, listed};
 
-use libc::{STDIN_FILENO, STDOUT_FILENO};
 use reader::{Found, Turn};
+use std::env::Env;
 use units::Answer;
 use words::Word;
 
@@ -25,6 +27,9 @@ const WIDTH: usize = 42;
 // The most places that a list has: a piece has a byte at least.
 const PLACES: usize = 60000;
 
+// The bytes of the input that are read.
+const INPUT_MOST: usize = 65536;
+
 // What a place of a list holds before a call, and no word has.
 const FRESH: u32 = 0xFFFFFFFF;
 
@@ -36,33 +41,23 @@ enum Entry {
     Broken,
 }
 
-// Writes four numbers on a line.
-fn put_four(a: u64, b: u64, c: u64, d: u64) {
-    io::print_decimal(STDOUT_FILENO, a);
-    io::write_all(STDOUT_FILENO, b" ");
-    io::print_decimal(STDOUT_FILENO, b);
-    io::write_all(STDOUT_FILENO, b" ");
-    io::print_decimal(STDOUT_FILENO, c);
-    io::write_all(STDOUT_FILENO, b" ");
-    io::print_decimal(STDOUT_FILENO, d);
-    io::write_all(STDOUT_FILENO, b"\n");
+// Writes four numbers on a line; a write that fails is passed over.
+fn put_four(rt: &HostRuntime, a: u64, b: u64, c: u64, d: u64) {
+    let _ = println!(rt; "{a} {b} {c} {d}");
 }
 
 // Writes the name of an entry and its answer on a line.
-fn put_answer(entry: &[u8], a: Answer) {
-    io::write_all(STDOUT_FILENO, entry);
-    io::write_all(STDOUT_FILENO, b" ");
-    io::print_decimal(STDOUT_FILENO, a.number as u64);
-    io::write_all(STDOUT_FILENO, b" ");
-    io::print_decimal(STDOUT_FILENO, a.place);
-    io::write_all(STDOUT_FILENO, b" ");
-    io::print_decimal(STDOUT_FILENO, a.count);
-    io::write_all(STDOUT_FILENO, b"\n");
+fn put_answer(rt: &HostRuntime, entry: &str, a: Answer) {
+    let number = a.number;
+    let place = a.place;
+    let count = a.count;
+    let _ = println!(rt; "{entry} {number} {place} {count}");
 }
 
 // Writes a word.
-fn put_word(word: Word) {
+fn put_word(rt: &HostRuntime, word: Word) {
     put_four(
+        rt,
         word.start.0 as u64,
         word.end.0 as u64,
         word.white.0 as u64,
@@ -71,23 +66,22 @@ fn put_word(word: Word) {
 }
 
 // Writes what a reader answers after the last word: no more, and where it stands.
-fn put_last(turn: Turn) {
+fn put_last(rt: &HostRuntime, turn: Turn) {
     let found = turn.found;
     match found {
-        Found::Next(word) => put_word(word),
+        Found::Next(word) => put_word(rt, word),
         Found::NoMore => {
-            io::write_all(STDOUT_FILENO, b"no more ");
-            io::print_decimal(STDOUT_FILENO, turn.next.0 as u64);
-            io::write_all(STDOUT_FILENO, b"\n");
+            let at = turn.next.0;
+            let _ = println!(rt; "no more {at}");
         }
     }
 }
 
 // Lists the words of a text as a reader answers them, one after the other.
-fn list_read(text: &[u8]) {
+fn list_read(rt: &HostRuntime, text: &[u8]) {
     let opening = reader::open_at(text);
     let answer = opening.answer;
-    put_answer(b"reader", reader::answer_of(answer));
+    put_answer(rt, "reader", reader::answer_of(answer));
     let mut at = opening.at;
     // a text has no more words than bytes
     let mut left = text.len();
@@ -97,11 +91,11 @@ fn list_read(text: &[u8]) {
         let Found::Next(word) = found else {
             break;
         };
-        put_word(word);
+        put_word(rt, word);
         at = turn.next;
         left -= 1;
     }
-    put_last(reader::next_of(text, at));
+    put_last(rt, reader::next_of(text, at));
 }
 
 // Whether any of a place's four numbers was stored.
@@ -116,7 +110,7 @@ fn wide(n: u32) -> u64 {
 }
 
 // Writes the places of four lists in which anything was stored.
-fn put_lists(starts: &[u32], ends: &[u32], whites: &[u32], widths: &[u32]) {
+fn put_lists(rt: &HostRuntime, starts: &[u32], ends: &[u32], whites: &[u32], widths: &[u32]) {
     let n = words::shortest(starts.len(), ends.len(), whites.len(), widths.len());
     let mut i = 0;
     while i < n {
@@ -125,7 +119,7 @@ fn put_lists(starts: &[u32], ends: &[u32], whites: &[u32], widths: &[u32]) {
         let white = whites[i];
         let width = widths[i];
         if is_listed(start, end, white, width) {
-            put_four(wide(start), wide(end), wide(white), wide(width));
+            put_four(rt, wide(start), wide(end), wide(white), wide(width));
         }
         i += 1;
     }
@@ -165,8 +159,9 @@ fn make_fresh(list: &mut [u32]) {
 
 // Lists what one of the entries finds in a text: its answer, and the places that it fills.
 fn list_by(
+    rt: &HostRuntime,
     entry: Entry,
-    name: &[u8],
+    name: &str,
     text: &[u8],
     width: u32,
     starts: &mut [u32],
@@ -179,12 +174,13 @@ fn list_by(
     make_fresh(whites);
     make_fresh(widths);
     let answer = call(entry, text, width, starts, ends, whites, widths);
-    put_answer(name, answer);
-    put_lists(starts, ends, whites, widths);
+    put_answer(rt, name, answer);
+    put_lists(rt, starts, ends, whites, widths);
 }
 
 // Lists the words of a text, by a reader and by the finder, and its pieces.
 fn list_text(
+    rt: &HostRuntime,
     text: &[u8],
     width: u32,
     starts: &mut [u32],
@@ -192,10 +188,11 @@ fn list_text(
     whites: &mut [u32],
     widths: &mut [u32],
 ) {
-    list_read(text);
+    list_read(rt, text);
     list_by(
+        rt,
         Entry::Words,
-        b"find_words",
+        "find_words",
         text,
         width,
         starts,
@@ -204,8 +201,9 @@ fn list_text(
         widths,
     );
     list_by(
+        rt,
         Entry::Apart,
-        b"break_apart",
+        "break_apart",
         text,
         width,
         starts,
@@ -214,8 +212,9 @@ fn list_text(
         widths,
     );
     list_by(
+        rt,
         Entry::Broken,
-        b"break_words",
+        "break_words",
         text,
         width,
         starts,
@@ -227,6 +226,7 @@ fn list_text(
 
 // Lists each text of the input.
 fn list_all(
+    rt: &HostRuntime,
     input: &[u8],
     width: u32,
     starts: &mut [u32],
@@ -238,14 +238,14 @@ fn list_all(
 {
     let mut from = 0;
     while from <= input.len() {
-        let end = bytes::scan::find(input, from, input.len(), BETWEEN);
-        list_text(&input[from..end], width, starts, ends, whites, widths);
+        let end = streams::end_of_part(input, from, BETWEEN);
+        list_text(rt, &input[from..end], width, starts, ends, whites, widths);
         from = end + 1;
     }
 }
 
 // Lists each text of the input, in lists of so many places.
-fn list_with(input: &[u8], width: u32, places: usize)
+fn list_with(rt: &HostRuntime, input: &[u8], width: u32, places: usize)
     requires input_len_bound { length input.now ≤ 65536 }
     requires places_bound { places ≤ 60000 }
 {
@@ -258,6 +258,7 @@ fn list_with(input: &[u8], width: u32, places: usize)
     let whites: &mut [u32] = &mut c;
     let widths: &mut [u32] = &mut d;
     list_all(
+        rt,
         input,
         width,
         &mut starts[..places],
@@ -268,12 +269,14 @@ fn list_with(input: &[u8], width: u32, places: usize)
 }
 
 // The number that is an argument of the program; another where there is none.
-fn argument(k: usize, absent: usize) -> usize
+fn argument(rt: &HostRuntime, k: usize, absent: usize) -> usize
     requires { absent ≤ 99999 }
     ensures { result ≤ 99999 }
 {
     let mut digits = [0u8; 8];
-    let n = os::arg(k, &mut digits);
+    let Ok(n) = rt.arg(k, &mut digits) else {
+        return absent;
+    };
     if n == 0 {
         return absent;
     }
@@ -287,10 +290,10 @@ fn at_most(places: usize) -> usize
     if places < PLACES { places } else { PLACES }
 }
 
-fn main() {
-    let width = argument(1, WIDTH);
-    let places = at_most(argument(2, PLACES));
-    let mut space = io::large_buffer();
-    let n = io::read_full(STDIN_FILENO, &mut space);
-    list_with(&space[..n], width as u32, places);
+fn main(rt: HostRuntime) {
+    let width = argument(&rt, 1, WIDTH);
+    let places = at_most(argument(&rt, 2, PLACES));
+    let mut space = [0u8; INPUT_MOST];
+    let n = streams::read_full(&mut rt.stdin(), &mut space);
+    list_with(&rt, &space[..n], width as u32, places);
 }
