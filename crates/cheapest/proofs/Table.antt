@@ -1,7 +1,7 @@
 -- The table: there is one, it is the computed one, and it speaks of the positions up to n alone.
 use mathlib.Core.Path.{◌≡◌, refl, sym, ◌∙◌, subst}
 use mathlib.Core.Logic.{⊎_elim}
-use mathlib.Core.List.{List, [], ◌∷◌, ◌++◌}
+use mathlib.Core.List.{[], ◌∷◌, ◌++◌}
 use Prim.Native.Nat.{ℕ, zero, suc, ◌+◌, ◌≤◌, ◌<◌}
 use native.Mathlib.Nat.{zero-add, le_antisymm, eq-or-lt_of_le, eq-zero-or-pos}
 use native.Mathlib.Omega.{arith}

@@ -1,24 +1,21 @@
 -- The lists of a layout at an index: a step of the loop that looks for a number above a bound, the width of a line, and the fragment at an index.
 use mathlib.Core.Path.{◌≡◌, refl, sym, ap, ◌∙◌}
-use mathlib.Core.Bool.{Bool, true, false}
 use mathlib.Core.List.{List, [], ◌∷◌}
 use Prim.Native.Nat.{ℕ, zero, suc, ◌+◌, ◌-◌, ◌≤◌, ◌<◌, min}
-use native.Mathlib.Numerals.{add-one}
 use native.Mathlib.Nat.{zero-add}
 use native.Mathlib.Omega.{arith}
 use lib.Dec.{leb, ltb, eqb}
-use lib.ListN.{length, get_or, drop, drop_of_length-le, get_or-eq_default}
-use lib.Seq.{drop-cons, get_or-drop}
+use lib.ListN.{length, get_or, drop, get_or-eq_default}
+use lib.Seq.{get_or-drop}
 use borrow.Author.Tests.{le-leb, lt-leb, le-ltb, eq-eqb, eqb-true, ltb-false}
 use Rattle.units.specs.declared.Answer.{Answer}
 use Rattle.units.specs.Limits.{fragments_most}
-use Rattle.logic.specs.Count.{count}
 use Rattle.logic.proofs.Choice.{both}
 use Rattle.logic.proofs.Count.{Counting, counting_start, counting_step, counting_stop, counting_end}
 use Rattle.fragments.specs.declared.Laid.{Laid}
 use Rattle.fragments.specs.declared.Tested.{Tested}
 use Rattle.fragments.specs.declared.Tested.TheVariants.{Good}
-use Rattle.fragments.specs.Fragments.{Fragment, fragments}
+use Rattle.fragments.specs.Fragments.{fragments}
 use Rattle.fragments.specs.Lists.{width_of, first_above, tested_of}
 use Rattle.fragments.specs.Answers.{answer_of}
 

@@ -1,6 +1,4 @@
 -- What a layout answers, in the numbers of document 01.
-use Rattle.std.specs.Prelude.{List, ℕ}
-use Rattle.std.proofs.lemmas.List.Edits.{sets}
 use Rattle.units.specs.declared.Answer.{Answer}
 use Rattle.units.specs.Answers.{success, refusal}
 use Rattle.fragments.specs.declared.Laid.{Laid}

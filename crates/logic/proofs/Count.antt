@@ -10,7 +10,6 @@ use native.Mathlib.Omega.{arith}
 use lib.ListN.{length, get_or, take, drop, length-drop, drop_of_length-le}
 use lib.Seq.{drop-cons, get_or-drop}
 use borrow.Author.Tests.{not-true, not-false}
-use Rattle.logic.specs.Choice.{pick}
 use Rattle.logic.specs.Count.{count}
 use Rattle.logic.specs.Member.{◌∈◌}
 use Rattle.logic.proofs.Choice.{both, pick_le}

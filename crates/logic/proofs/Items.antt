@@ -1,12 +1,11 @@
 -- Items are those of the step, as long as it goes on: where there are none, one is read off, something is shown of all, and how many there can be.
-use mathlib.Core.Path.{◌≡◌, refl, ◌∙◌}
+use mathlib.Core.Path.{◌≡◌, refl}
 use mathlib.Core.List.{List, [], ◌∷◌}
 use Prim.Native.Nat.{ℕ, zero, suc, ◌-◌, ◌≤◌, ◌<◌}
 use native.Mathlib.Omega.{arith}
 use lib.Dec.{ltb}
 use lib.ListN.{length}
 use borrow.Author.Tests.{lt-ltb, le-ltb, ltb-true, ltb-false}
-use Rattle.logic.specs.Choice.{pick}
 use Rattle.logic.specs.Items.{items_for, items}
 use Rattle.logic.proofs.Choice.{both}
 

@@ -1,6 +1,8 @@
 // The units that every other crate speaks in: a byte offset, a column count and a fragment index as
 // three types, so that none can stand for another; the limits of document 01; and its answers in
 // numbers. No rule about texts or layouts stands here.
+#![tactic(auto)]
+
 ghost use Rattle.std.specs.Prelude.{◌≡◌};
 ghost use Rattle.units.specs.Answers.{success, refusal};
 

@@ -1,5 +1,4 @@
 -- `fill_line`: by the laws of `Filling`, one for each way into, round and out of the loop.
-use Prim.Native.Nat.{◌-◌}
 use Rattle.fill.proofs.Filling.{filling}
 use borrow.Author.Rules.{rules}
 use Rattle.fill.proofs.fill_line.Goals as goal

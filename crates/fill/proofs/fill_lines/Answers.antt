@@ -1,5 +1,4 @@
 -- `fill_lines`: by the laws of `Going`, one for each way into, round and out of the loop.
-use Prim.Native.Nat.{◌-◌}
 use Rattle.fill.proofs.Going.{going}
 use borrow.Author.Rules.{rules}
 use Rattle.fill.proofs.fill_lines.Goals as goal

@@ -1,5 +1,4 @@
 -- `first_above`: a loop that counts, by the laws of `Below`.
-use Prim.Native.Nat.{◌-◌}
 use Rattle.fragments.proofs.Laws.{below_step, below_stop, looking}
 use borrow.Author.Rules.{rules}
 use Rattle.fragments.proofs.first_above.Goals as goal

@@ -1,5 +1,4 @@
 -- `parts_at`: a loop that goes on while both texts do, by the laws of `Together`.
-use Prim.Native.Nat.{◌-◌}
 use borrow.Author.Rules.{rules}
 use Rattle.parting.proofs.Parting.{parting}
 use Rattle.parting.proofs.parts_at.Goals as goal

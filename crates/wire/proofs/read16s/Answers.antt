@@ -1,5 +1,4 @@
 -- `read16s`: by the laws of `Copying`.
-use Prim.Native.Nat.{◌-◌}
 use mathlib.Core.Path.{refl}
 use Rattle.logic.specs.Flat.{alone}
 use Rattle.wire.specs.Wire.{numbers16}

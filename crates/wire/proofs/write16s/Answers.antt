@@ -1,5 +1,4 @@
 -- `write16s`: by the laws of `Copying`.
-use Prim.Native.Nat.{◌-◌}
 use mathlib.Core.Path.{refl}
 use Rattle.wire.specs.Wire.{be16}
 use Rattle.wire.proofs.Copying.{copying_start, copying_step, copying_end}
