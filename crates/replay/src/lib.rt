@@ -2,6 +2,8 @@
 // entry that it asks answers as the crate did. All that the program `vectors` decides is decided here; the
 // program itself only moves bytes. What is right stands in the crates that are called, and how the file
 // was made in `rust/vectors`, which also has the form of a record.
+#![tactic(auto)]
+
 ghost use Rattle.std.specs.Prelude.{◌≡◌, [], ◌∷◌, ◌+◌, ◌*◌, ◌≤◌, ◌<◌, min, eqb, length, get_or};
 ghost use Rattle.units.specs.Limits.{text_most};
 ghost use Rattle.words.specs.Lists.{Room};

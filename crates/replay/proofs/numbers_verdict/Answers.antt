@@ -1,0 +1,31 @@
+-- `numbers_verdict`: one law of `numbering` for each kind.
+use Rattle.replay.proofs.Layouts.{numbering}
+use borrow.Author.Rules.{rules}
+use Rattle.replay.proofs.numbers_verdict.Goals as goal
+
+pub returns-in-FirstFit : goal.returns-in-FirstFit
+returns-in-FirstFit c = search (numbering, rules)
+
+pub returns-in-LeastCost : goal.returns-in-LeastCost
+returns-in-LeastCost c = search (numbering, rules)
+
+pub returns-in-Measure : goal.returns-in-Measure
+returns-in-Measure c = search (numbering, rules)
+
+pub returns-in-Words : goal.returns-in-Words
+returns-in-Words c = search (numbering, rules)
+
+pub returns-in-Apart : goal.returns-in-Apart
+returns-in-Apart c = search (numbering, rules)
+
+pub returns-in-Broken : goal.returns-in-Broken
+returns-in-Broken c = search (numbering, rules)
+
+pub returns-in-Fill : goal.returns-in-Fill
+returns-in-Fill c = search (numbering, rules)
+
+pub returns-in-Turn : goal.returns-in-Turn
+returns-in-Turn c = search (numbering, rules)
+
+pub returns-in-Unknown : goal.returns-in-Unknown
+returns-in-Unknown c = search (numbering, rules)
