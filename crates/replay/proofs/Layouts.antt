@@ -88,7 +88,7 @@ module _ (ns : List ℕ) {q : Parts} (room : ℕ) (st : List ℕ) (e : q ≡ par
   unfolding first_agrees
   first_good g h = rw (← e, g) h
 
-pub ruleset first-parts = (parts_inside, first_bad_lem, first_good)
+pub ruleset first_parts = (parts_inside, first_bad_lem, first_good)
 
 module _ (n : ℕ) (ns ends st : List ℕ) {l : Laid} (f : l ≡ first.first_fit_of (words_in n ns) (whites_in n ns) (penalties_in n ns) (widths_in n ns) (length ends)) where
   by_laid : {r : Bool} → r ≡ laid_agrees l (line_ends (widths_in n ns) (fragments (words_in n ns) (whites_in n ns) (penalties_in n ns))) st → r ≡ first_of_parts n ns (length ends) st
@@ -180,7 +180,7 @@ module _ (ns : List ℕ) {q : Parts} (P : Penalties) (ends costs starts : ℕ) (
   unfolding least_verdict
   least_good g h = rw (← e, g) h
 
-pub ruleset least-parts = (parts_inside, least_bad, least_good)
+pub ruleset least_parts = (parts_inside, least_bad, least_good)
 
 module _ (n : ℕ) (ns : List ℕ) {l : Laid} (P : Penalties) {E C S E' C' S' : List ℕ} (st : List ℕ) (i : 1 + 3 * n ≤ length ns)
     (k : least.Laying (words_in n ns) (whites_in n ns) (penalties_in n ns) (widths_in n ns) P E C S l E' C' S') where

@@ -475,6 +475,7 @@ fn first_agrees(numbers: &[u16], ends: &mut [u16], stored: &[u8]) -> bool
 }
 
 // How the lines of a layout and their cost compare with those that are stored.
+#[tactic(auto, using(crate::proofs::Layouts::weighing))]
 fn weigh(cost: u64, lines: usize, ends: &[u16], stored: &[u8]) -> Verdict
     requires { lines ≤ length ends.now }
     ensures { result ≡ weighed cost (part 0 lines ends.now) stored.now }
