@@ -3,7 +3,7 @@
 #![tactic(auto)]
 
 use std::env::{Env, FillError};
-use std::io::Write;
+use std::io;
 use units::TEXT_MOST;
 
 // The bytes of an argument that are looked at: no path has more.
@@ -19,34 +19,30 @@ fn serve_file(rt: &HostRuntime, path: &[u8]) {
 }
 
 // Runs the job program on the file that an argument names.
-fn run(rt: &HostRuntime, path: &[u8]) {
-    put(rt, path);
-    put(rt, b"\n");
+fn run(rt: &HostRuntime, path: &[u8]) -> io::Result<()> {
+    rt.write_all(path)?;
+    rt.write_all(b"\n")?;
     serve_file(rt, path);
-    put(rt, b"\n");
-}
-
-// Writes bytes; a write that fails is passed over.
-fn put(rt: &HostRuntime, bytes: &[u8]) {
-    let _ = rt.stdout().write_all(bytes);
+    rt.write_all(b"\n")
 }
 
 // Runs the job program on the file that an argument names. Answers whether there is such an argument.
-fn run_named(rt: &HostRuntime, k: usize) -> bool {
+fn run_named(rt: &HostRuntime, k: usize) -> io::Result<bool> {
     let mut path = [0u8; PATH_ROOM];
     match rt.arg(k, &mut path) {
-        Ok(n) => run(rt, &path[..n]),
+        Ok(n) => run(rt, &path[..n])?,
         // no file has such a name
-        Err(FillError::TooLong) => run(rt, b""),
-        Err(FillError::NotPresent) => return false,
+        Err(FillError::TooLong) => run(rt, b"")?,
+        Err(FillError::NotPresent) => return Ok(false),
     }
-    true
+    Ok(true)
 }
 
-fn main(rt: HostRuntime) {
+fn main(rt: HostRuntime) -> io::Result<()> {
     for k in 1..usize::MAX {
-        if !run_named(&rt, k) {
+        if !run_named(&rt, k)? {
             break;
         }
     }
+    Ok(())
 }

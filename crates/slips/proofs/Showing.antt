@@ -20,7 +20,7 @@ use Rattle.logic.proofs.Choice.{both}
 use Rattle.lines.specs.Lines.{next_line}
 use Rattle.lines.proofs.Laws.{next_later, next_whole}
 use Rattle.shown.specs.declared.Tally.{Tally}
-use Rattle.shown.specs.Slip.{Small, counted_of}
+use Rattle.shown.specs.Slip.{counted_of}
 use Rattle.slips.specs.Show.{Shows, show_answer}
 
 module _ (s : List ℕ) (width : ℕ) where
@@ -75,12 +75,6 @@ pub record Putting (s : List ℕ) (width from : ℕ) (t : Tally) : Type 0 where
   pub lines : t.lines ≤ from
   pub wide : t.wide ≤ t.lines
 
-pub putting_start : {s : List ℕ} {width : ℕ} → Shows s width → Putting s width 0 (record { lines = 0; wide = 0; first = 0 })
-putting_start h = record { shows = h; rest = h.whole; lines = omega arith; wide = omega arith }
-
-pub putting_small : {s : List ℕ} {width from : ℕ} {t : Tally} → Putting s width from t → from < length s → Small t
-putting_small r h = record { lines = omega (arith, r.lines, r.shows.short); wide = omega (arith, r.lines, r.wide, r.shows.short) }
-
 counted_lines : (t : Tally) (b : Bool) → (counted_of t b).lines ≡ t.lines + 1
 unfolding counted_of
 counted_lines t b = refl
@@ -100,5 +94,3 @@ putting_step {s} {width} {from} {next} {t} {u} b r e q = record {
 
 pub putting_less : {next : ℕ} (s : List ℕ) (from : ℕ) → next ≡ next_line s from → from < length s → length s - next < length s - from
 putting_less s from e l = omega (arith, next_later s from)
-
-pub ruleset putting = (putting_start, putting_small, putting_step, putting_less)

@@ -1,8 +1,9 @@
-// What the programs do with any file and any input: they read as many bytes as are wanted, and take a failed read for the
-// end; and they part what they read at a byte.
+// What the programs do with any file and any input: they open it, read as many bytes as are wanted, with a
+// failed read taken for the end, and part what they read at a byte.
 #![tactic(auto)]
 
-ghost use Rattle.std.specs.Prelude.{◌≡◌, ◌≢◌, ◌<◌, ◌≤◌, ℕ, length, slice_index};
+ghost use Rattle.std.specs.Prelude.{◌≡◌, ◌≢◌, ◌<◌, ◌≤◌, ℕ, length, take, slice_index};
+ghost use Rattle.std.specs.Io.KnownBytes.{Consumes};
 
 use std::fs::File;
 use std::io::Read;
@@ -16,10 +17,12 @@ pub fn open(rt: &HostRuntime, name: &[u8]) -> io::Result<File> {
     }
 }
 
-// Reads until the buffer is full, the input ends or a read fails. Answers how many bytes came to its start.
+// Reads until the buffer is full, the input ends or a read fails. Answers how many bytes came to its start;
+// of a reader whose bytes are known, they are those that it has no longer.
 pub fn read_full<R: Read>(input: &mut R, buffer: &mut [u8]) -> usize
     ensures in_bounds { result ≤ length buffer.new }
     ensures same_len { length buffer.new ≡ length buffer.old }
+    ensures bytes { Consumes (R.remaining input.old) (R.remaining input.new) (take result buffer.new) }
 {
     let mut done = 0;
     while done < buffer.len() {
@@ -34,7 +37,8 @@ pub fn read_full<R: Read>(input: &mut R, buffer: &mut [u8]) -> usize
 
 // One read: how many bytes came, 0 at the end of the input and where the read fails.
 fn read_some<R: Read>(input: &mut R, part: &mut [u8]) -> usize
-    ensures { result ≤ length part.new }
+    ensures in_bounds { result ≤ length part.new }
+    ensures bytes { Consumes (R.remaining input.old) (R.remaining input.new) (take result part.new) }
 {
     match input.read(part) {
         Ok(n) => n,

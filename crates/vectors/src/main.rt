@@ -11,6 +11,7 @@
 ghost use Rattle.std.specs.Prelude.{◌≡◌, ◌≤◌, length};
 
 use replay::{HEAD_BYTES, Head, Tally, Verdict};
+use std::io;
 
 // The most bytes that a record asks or stores.
 const PART_MOST: usize = 65535;
@@ -29,7 +30,7 @@ struct State {
 }
 
 // Writes the name of a kind.
-fn put_kind(rt: &HostRuntime, kind: u8) {
+fn put_kind(rt: &HostRuntime, kind: u8) -> io::Result<()> {
     match kind {
         b'M' => put(rt, b"measure"),
         b'W' => put(rt, b"words"),
@@ -42,40 +43,39 @@ fn put_kind(rt: &HostRuntime, kind: u8) {
     }
 }
 
-// Writes bytes; a write that fails is passed over.
-fn put(rt: &HostRuntime, text: &[u8]) {
-    let _ = rt.write_all(text);
+fn put(rt: &HostRuntime, text: &[u8]) -> io::Result<()> {
+    rt.write_all(text)
 }
 
-fn put_number(rt: &HostRuntime, n: u64) {
-    let _ = rt.print(n);
+fn put_number(rt: &HostRuntime, n: u64) -> io::Result<()> {
+    rt.print(n)
 }
 
 // Writes how a run of records of one kind came out, if there is one.
-fn put_tally(rt: &HostRuntime, kind: u8, tally: Tally) {
+fn put_tally(rt: &HostRuntime, kind: u8, tally: Tally) -> io::Result<()> {
     if tally.replayed == 0 {
-        return;
+        return Ok(());
     }
-    put_kind(rt, kind);
-    put(rt, b": ");
-    put_number(rt, tally.replayed);
-    put(rt, b" replayed, ");
-    put_number(rt, tally.agreed);
-    put(rt, b" agreed, ");
-    put_number(rt, tally.tied);
-    put(rt, b" tied");
+    put_kind(rt, kind)?;
+    put(rt, b": ")?;
+    put_number(rt, tally.replayed)?;
+    put(rt, b" replayed, ")?;
+    put_number(rt, tally.agreed)?;
+    put(rt, b" agreed, ")?;
+    put_number(rt, tally.tied)?;
+    put(rt, b" tied")?;
     if tally.first != 0 {
-        put(rt, b", first that differs: record ");
-        put_number(rt, tally.first);
+        put(rt, b", first that differs: record ")?;
+        put_number(rt, tally.first)?;
     }
-    put(rt, b"\n");
+    put(rt, b"\n")
 }
 
 // Writes what ends the replay, and the number of a record.
-fn put_stop(rt: &HostRuntime, why: &[u8], number: u64) {
-    put(rt, why);
-    put_number(rt, number);
-    put(rt, b"\n");
+fn put_stop(rt: &HostRuntime, why: &[u8], number: u64) -> io::Result<()> {
+    put(rt, why)?;
+    put_number(rt, number)?;
+    put(rt, b"\n")
 }
 
 // A run of records before its first.
@@ -89,30 +89,30 @@ fn fresh() -> Tally {
 }
 
 // Writes how the last run came out and why no further record is read.
-fn stopped(rt: &HostRuntime, state: State, why: &[u8], number: u64) -> State {
+fn stopped(rt: &HostRuntime, state: State, why: &[u8], number: u64) -> io::Result<State> {
     let tally = state.tally;
-    put_tally(rt, state.kind, tally);
-    put_stop(rt, why, number);
-    State {
+    put_tally(rt, state.kind, tally)?;
+    put_stop(rt, why, number)?;
+    Ok(State {
         kind: NO_KIND,
         tally: fresh(),
         number,
         more: false,
-    }
+    })
 }
 
 // The run that a record of a kind goes on with: the last one, or a new one after the last is written.
-fn run_of(rt: &HostRuntime, state: State, kind: u8) -> Tally {
+fn run_of(rt: &HostRuntime, state: State, kind: u8) -> io::Result<Tally> {
     let tally = state.tally;
     if state.kind == kind {
-        return tally;
+        return Ok(tally);
     }
-    put_tally(rt, state.kind, tally);
-    fresh()
+    put_tally(rt, state.kind, tally)?;
+    Ok(fresh())
 }
 
 // Counts a record by its verdict.
-fn after(rt: &HostRuntime, state: State, kind: u8, verdict: Verdict) -> State {
+fn after(rt: &HostRuntime, state: State, kind: u8, verdict: Verdict) -> io::Result<State> {
     let number = replay::one_more(state.number);
     match verdict {
         Verdict::Unknown => stopped(
@@ -122,18 +122,18 @@ fn after(rt: &HostRuntime, state: State, kind: u8, verdict: Verdict) -> State {
             number,
         ),
         Verdict::Turn => {
-            run_of(rt, state, kind);
-            put(rt, b"wrong on purpose from here on\n");
-            State {
+            run_of(rt, state, kind)?;
+            put(rt, b"wrong on purpose from here on\n")?;
+            Ok(State {
                 kind,
                 tally: fresh(),
                 number,
                 more: true,
-            }
+            })
         }
-        Verdict::Agreed => counted(run_of(rt, state, kind), kind, verdict, number),
-        Verdict::Tied => counted(run_of(rt, state, kind), kind, verdict, number),
-        Verdict::Differs => counted(run_of(rt, state, kind), kind, verdict, number),
+        Verdict::Agreed => Ok(counted(run_of(rt, state, kind)?, kind, verdict, number)),
+        Verdict::Tied => Ok(counted(run_of(rt, state, kind)?, kind, verdict, number)),
+        Verdict::Differs => Ok(counted(run_of(rt, state, kind)?, kind, verdict, number)),
     }
 }
 
@@ -157,7 +157,7 @@ fn replay_record(
     stores: u16,
     asked: &mut [u8],
     stored: &mut [u8],
-) -> State
+) -> io::Result<State>
     requires { (length asked.old ≡ 65535) × (length stored.old ≡ 65535) }
 {
     let n = asks as usize;
@@ -180,7 +180,12 @@ fn read(rt: &HostRuntime, part: &mut [u8]) -> usize
 }
 
 // Reads one record and replays it.
-fn replay_one(rt: &HostRuntime, state: State, asked: &mut [u8], stored: &mut [u8]) -> State
+fn replay_one(
+    rt: &HostRuntime,
+    state: State,
+    asked: &mut [u8],
+    stored: &mut [u8],
+) -> io::Result<State>
     requires { (length asked.old ≡ 65535) × (length stored.old ≡ 65535) }
 {
     let mut space = [0u8; HEAD_BYTES];
@@ -199,7 +204,7 @@ fn replay_one(rt: &HostRuntime, state: State, asked: &mut [u8], stored: &mut [u8
 }
 
 // Replays the records of standard input, in order.
-fn replay_all(rt: &HostRuntime, asked: &mut [u8], stored: &mut [u8])
+fn replay_all(rt: &HostRuntime, asked: &mut [u8], stored: &mut [u8]) -> io::Result<()>
     requires { (length asked.old ≡ 65535) × (length stored.old ≡ 65535) }
 {
     let mut state = State {
@@ -211,13 +216,14 @@ fn replay_all(rt: &HostRuntime, asked: &mut [u8], stored: &mut [u8])
     // a proved loop ends: this many records come in no day, and in no thousand years
     let mut left = u64::MAX;
     while left > 0 && state.more {
-        state = replay_one(rt, state, asked, stored);
+        state = replay_one(rt, state, asked, stored)?;
         left -= 1;
     }
+    Ok(())
 }
 
-fn main(rt: HostRuntime) {
+fn main(rt: HostRuntime) -> io::Result<()> {
     let mut asked = [0; PART_MOST];
     let mut stored = [0; PART_MOST];
-    replay_all(&rt, &mut asked, &mut stored);
+    replay_all(&rt, &mut asked, &mut stored)
 }

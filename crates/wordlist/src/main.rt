@@ -15,6 +15,7 @@ ghost use Rattle.wordlist.specs.Wordlist.{answered, listed};
 
 use reader::{Found, Turn};
 use std::env::Env;
+use std::io;
 use units::Answer;
 use words::Word;
 
@@ -41,47 +42,47 @@ enum Entry {
     Broken,
 }
 
-// Writes four numbers on a line; a write that fails is passed over.
-fn put_four(rt: &HostRuntime, a: u64, b: u64, c: u64, d: u64) {
-    let _ = println!(rt; "{a} {b} {c} {d}");
+// Writes four numbers on a line.
+fn put_four(rt: &HostRuntime, a: u64, b: u64, c: u64, d: u64) -> io::Result<()> {
+    println!(rt; "{a} {b} {c} {d}")
 }
 
 // Writes the name of an entry and its answer on a line.
-fn put_answer(rt: &HostRuntime, entry: &str, a: Answer) {
+fn put_answer(rt: &HostRuntime, entry: &str, a: Answer) -> io::Result<()> {
     let number = a.number;
     let place = a.place;
     let count = a.count;
-    let _ = println!(rt; "{entry} {number} {place} {count}");
+    println!(rt; "{entry} {number} {place} {count}")
 }
 
 // Writes a word.
-fn put_word(rt: &HostRuntime, word: Word) {
+fn put_word(rt: &HostRuntime, word: Word) -> io::Result<()> {
     put_four(
         rt,
         word.start.0 as u64,
         word.end.0 as u64,
         word.white.0 as u64,
         word.width.0 as u64,
-    );
+    )
 }
 
 // Writes what a reader answers after the last word: no more, and where it stands.
-fn put_last(rt: &HostRuntime, turn: Turn) {
+fn put_last(rt: &HostRuntime, turn: Turn) -> io::Result<()> {
     let found = turn.found;
     match found {
         Found::Next(word) => put_word(rt, word),
         Found::NoMore => {
             let at = turn.next.0;
-            let _ = println!(rt; "no more {at}");
+            println!(rt; "no more {at}")
         }
     }
 }
 
 // Lists the words of a text as a reader answers them, one after the other.
-fn list_read(rt: &HostRuntime, text: &[u8]) {
+fn list_read(rt: &HostRuntime, text: &[u8]) -> io::Result<()> {
     let opening = reader::open_at(text);
     let answer = opening.answer;
-    put_answer(rt, "reader", reader::answer_of(answer));
+    put_answer(rt, "reader", reader::answer_of(answer))?;
     let mut at = opening.at;
     // a text has no more words than bytes
     let mut left = text.len();
@@ -91,11 +92,11 @@ fn list_read(rt: &HostRuntime, text: &[u8]) {
         let Found::Next(word) = found else {
             break;
         };
-        put_word(rt, word);
+        put_word(rt, word)?;
         at = turn.next;
         left -= 1;
     }
-    put_last(rt, reader::next_of(text, at));
+    put_last(rt, reader::next_of(text, at))
 }
 
 // Whether any of a place's four numbers was stored.
@@ -110,7 +111,13 @@ fn wide(n: u32) -> u64 {
 }
 
 // Writes the places of four lists in which anything was stored.
-fn put_lists(rt: &HostRuntime, starts: &[u32], ends: &[u32], whites: &[u32], widths: &[u32]) {
+fn put_lists(
+    rt: &HostRuntime,
+    starts: &[u32],
+    ends: &[u32],
+    whites: &[u32],
+    widths: &[u32],
+) -> io::Result<()> {
     let n = words::shortest(starts.len(), ends.len(), whites.len(), widths.len());
     let mut i = 0;
     while i < n {
@@ -119,10 +126,11 @@ fn put_lists(rt: &HostRuntime, starts: &[u32], ends: &[u32], whites: &[u32], wid
         let white = whites[i];
         let width = widths[i];
         if is_listed(start, end, white, width) {
-            put_four(rt, wide(start), wide(end), wide(white), wide(width));
+            put_four(rt, wide(start), wide(end), wide(white), wide(width))?;
         }
         i += 1;
     }
+    Ok(())
 }
 
 // Calls one of the entries on four lists that are lent.
@@ -168,14 +176,14 @@ fn list_by(
     ends: &mut [u32],
     whites: &mut [u32],
     widths: &mut [u32],
-) {
+) -> io::Result<()> {
     make_fresh(starts);
     make_fresh(ends);
     make_fresh(whites);
     make_fresh(widths);
     let answer = call(entry, text, width, starts, ends, whites, widths);
-    put_answer(rt, name, answer);
-    put_lists(rt, starts, ends, whites, widths);
+    put_answer(rt, name, answer)?;
+    put_lists(rt, starts, ends, whites, widths)
 }
 
 // Lists the words of a text, by a reader and by the finder, and its pieces.
@@ -187,8 +195,8 @@ fn list_text(
     ends: &mut [u32],
     whites: &mut [u32],
     widths: &mut [u32],
-) {
-    list_read(rt, text);
+) -> io::Result<()> {
+    list_read(rt, text)?;
     list_by(
         rt,
         Entry::Words,
@@ -199,7 +207,7 @@ fn list_text(
         ends,
         whites,
         widths,
-    );
+    )?;
     list_by(
         rt,
         Entry::Apart,
@@ -210,7 +218,7 @@ fn list_text(
         ends,
         whites,
         widths,
-    );
+    )?;
     list_by(
         rt,
         Entry::Broken,
@@ -221,7 +229,7 @@ fn list_text(
         ends,
         whites,
         widths,
-    );
+    )
 }
 
 // Lists each text of the input.
@@ -233,19 +241,20 @@ fn list_all(
     ends: &mut [u32],
     whites: &mut [u32],
     widths: &mut [u32],
-)
+) -> io::Result<()>
     requires { length input.now ≤ 65536 }
 {
     let mut from = 0;
     while from <= input.len() {
         let end = streams::end_of_part(input, from, BETWEEN);
-        list_text(rt, &input[from..end], width, starts, ends, whites, widths);
+        list_text(rt, &input[from..end], width, starts, ends, whites, widths)?;
         from = end + 1;
     }
+    Ok(())
 }
 
 // Lists each text of the input, in lists of so many places.
-fn list_with(rt: &HostRuntime, input: &[u8], width: u32, places: usize)
+fn list_with(rt: &HostRuntime, input: &[u8], width: u32, places: usize) -> io::Result<()>
     requires input_len_bound { length input.now ≤ 65536 }
     requires places_bound { places ≤ 60000 }
 {
@@ -265,7 +274,7 @@ fn list_with(rt: &HostRuntime, input: &[u8], width: u32, places: usize)
         &mut ends[..places],
         &mut whites[..places],
         &mut widths[..places],
-    );
+    )
 }
 
 // The number that is an argument of the program; another where there is none.
@@ -290,10 +299,10 @@ fn at_most(places: usize) -> usize
     if places < PLACES { places } else { PLACES }
 }
 
-fn main(rt: HostRuntime) {
+fn main(rt: HostRuntime) -> io::Result<()> {
     let width = argument(&rt, 1, WIDTH);
     let places = at_most(argument(&rt, 2, PLACES));
     let mut space = [0u8; INPUT_MOST];
     let n = streams::read_full(&mut rt.stdin(), &mut space);
-    list_with(&rt, &space[..n], width as u32, places);
+    list_with(&rt, &space[..n], width as u32, places)
 }
