@@ -4,9 +4,10 @@
 //     job < JOBS > REPLIES
 #![tactic(auto)]
 
+use std::io;
 use units::TEXT_MOST;
 
-fn main(rt: HostRuntime) {
+fn main(rt: HostRuntime) -> io::Result<()> {
     let mut buffer = [0; TEXT_MOST];
-    jobs::serve(&mut buffer, &mut rt.stdin(), &mut rt.stdout());
+    jobs::serve(&mut buffer, &mut rt.stdin(), &mut rt.stdout())
 }

@@ -10,19 +10,19 @@ use units::TEXT_MOST;
 const PATH_ROOM: usize = 4096;
 
 // Runs the job program on a file; on nothing where it cannot be opened.
-fn serve_file(rt: &HostRuntime, path: &[u8]) {
+fn serve_file(rt: &HostRuntime, path: &[u8]) -> io::Result<()> {
     let mut buffer = [0; TEXT_MOST];
     let Ok(mut input) = streams::open(rt, path) else {
-        return;
+        return Ok(());
     };
-    jobs::serve(&mut buffer, &mut input, &mut rt.stdout());
+    jobs::serve(&mut buffer, &mut input, &mut rt.stdout())
 }
 
 // Runs the job program on the file that an argument names.
 fn run(rt: &HostRuntime, path: &[u8]) -> io::Result<()> {
     rt.write_all(path)?;
     rt.write_all(b"\n")?;
-    serve_file(rt, path);
+    serve_file(rt, path)?;
     rt.write_all(b"\n")
 }
 

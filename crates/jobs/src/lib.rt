@@ -7,21 +7,18 @@ ghost use Rattle.std.specs.Prelude.{◌≡◌, ◌≤◌, length};
 ghost use Rattle.units.specs.Limits.{text_most};
 
 use record::{HEAD_BYTES, Head, Reply};
+use std::io;
 use std::io::{Read, Write};
 
-// Writes a reply, with the text where it is filled, and answers whether to go on: not after a write that
-// failed.
-fn send<W: Write>(output: &mut W, reply: Reply, text: &[u8]) -> bool {
+// Writes a reply, with the text where it is filled, and answers whether to go on; or the error of a write
+// that failed.
+fn send<W: Write>(output: &mut W, reply: Reply, text: &[u8]) -> io::Result<bool> {
     let head = reply.head;
-    if output.write_all(&head).is_err() {
-        return false;
-    }
+    output.write_all(&head)?;
     if reply.filled {
-        if output.write_all(text).is_err() {
-            return false;
-        }
+        output.write_all(text)?;
     }
-    reply.more
+    Ok(reply.more)
 }
 
 // Reads into a part of the buffer until that is full or the input ends. Answers how many bytes came.
@@ -40,7 +37,7 @@ fn serve_text<R: Read, W: Write>(
     output: &mut W,
     width: u8,
     len: u16,
-) -> bool
+) -> io::Result<bool>
     requires { length buffer.old ≡ text_most }
 {
     let kept = record::kept(len);
@@ -52,27 +49,32 @@ fn serve_text<R: Read, W: Write>(
 }
 
 // Reads one record and replies to it. Answers whether to go on.
-fn serve_one<R: Read, W: Write>(buffer: &mut [u8], input: &mut R, output: &mut W) -> bool
+fn serve_one<R: Read, W: Write>(
+    buffer: &mut [u8],
+    input: &mut R,
+    output: &mut W,
+) -> io::Result<bool>
     requires { length buffer.old ≡ text_most }
 {
     let mut space = [0u8; HEAD_BYTES];
     let came = streams::read_full(input, &mut space);
     let head = record::head_of(&space[..came]);
     match head {
-        Head::End => false,
+        Head::End => Ok(false),
         Head::Refused(answer) => send(output, record::reply_of(answer, 0), &buffer[..0]),
         Head::Job { width, len } => serve_text(buffer, input, output, width, len),
     }
 }
 
-// Replies to the records of an input, in order, until it ends or `record` says stop. The buffer is for
-// the text of one job at a time.
-pub fn serve<R: Read, W: Write>(buffer: &mut [u8], input: &mut R, output: &mut W)
+// Replies to the records of an input, in order, until it ends, `record` says stop or a write fails, with
+// its error. The buffer is for the text of one job at a time.
+pub fn serve<R: Read, W: Write>(buffer: &mut [u8], input: &mut R, output: &mut W) -> io::Result<()>
     requires { length buffer.old ≡ text_most }
 {
     // a proved loop ends: this many records come in no day, and in no thousand years
     let mut left = u64::MAX;
-    while left > 0 && serve_one(buffer, input, output) {
+    while left > 0 && serve_one(buffer, input, output)? {
         left -= 1;
     }
+    Ok(())
 }
