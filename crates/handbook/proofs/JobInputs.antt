@@ -21,7 +21,7 @@ pub data Last : List ℕ → Type 0 where
   single : (a : ℕ) → Last (a ∷ [])
   wrong : (a b : ℕ) (t : List ℕ) → is_job a b ≡ false → Last (a ∷ b ∷ t)
   in_head : (t : List ℕ) → length t < 3 → Last (0x57 ∷ 0x4A ∷ t)
-  in_text_lem : (w high low : ℕ) (t : List ℕ) → length t < high * 256 + low → Last (0x57 ∷ 0x4A ∷ w ∷ high ∷ low ∷ t)
+  in_text : (w high low : ℕ) (t : List ℕ) → length t < high * 256 + low → Last (0x57 ∷ 0x4A ∷ w ∷ high ∷ low ∷ t)
 
 -- Whole jobs, and then that.
 pub data Input : List ℕ → Type 0 where
@@ -55,7 +55,7 @@ of_length (suc n) (a ∷ b ∷ c ∷ d ∷ e ∷ t) l f =
     let q = and_true (eqb a 0x57) (eqb b 0x4A) p in
     rw (eqb-true a 0x57 q.0, eqb-true b 0x4A q.1)
     (both (ltb (length t) (d * 256 + e))
-    (λ u. last (in_text_lem c d e t (ltb-true (length t) (d * 256 + e) u)))
+    (λ u. last (in_text c d e t (ltb-true (length t) (d * 256 + e) u)))
     (λ u.
     let later : Input (drop (d * 256 + e) t) = of_length n (drop (d * 256 + e) t) (omega (arith, length-drop (d * 256 + e) t)) (λ i. rw (get_or-drop (d * 256 + e) t i 0) (f (suc (suc (suc (suc (suc (d * 256 + e + i)))))))) in
     first_job c d e t (f 3) (f 4) (ltb-false (length t) (d * 256 + e) u) later)))
@@ -71,7 +71,7 @@ last_to nothing = []
 last_to (single a) = last_reply 14
 last_to (wrong a b t e) = last_reply 13
 last_to (in_head t l) = last_reply 14
-last_to (in_text_lem w high low t l) = last_reply 14
+last_to (in_text w high low t l) = last_reply 14
 
 abbrev pub replies_to : {s : List ℕ} → Input s → List ℕ
 replies_to (last e) = last_to e
@@ -82,7 +82,7 @@ last_replies nothing = jobs.the_end
 last_replies (single a) = jobs.single_byte a
 last_replies (wrong a b t e) = jobs.wrong_mark a b t e
 last_replies (in_head t l) = jobs.cut_head t l
-last_replies (in_text_lem w high low t l) = jobs.cut_text w high low t l
+last_replies (in_text w high low t l) = jobs.cut_text w high low t l
 
 pub all_replies : {s : List ℕ} (i : Input s) → replies s ≡ replies_to i
 all_replies (last e) = last_replies e

@@ -92,7 +92,7 @@ module _ (b a : List ℕ) (p : ℕ) where
       let y : get_or body q 0 ≡ 0x20 → ⊥ = λ z. eqb-false (get_or b (suc p) 0) 0x20 r.letter (rw (← e) (sym (body_byte b i q v.inside (omega (arith, v.from))) ∙ z)) in
       let m = Memᴰ.of_map start_of (words body) ((starts_between body q (omega (arith, v.from)) (omega (arith, v.from))).1 (x, y)) in
       record {
-        was = record { line = line_at b i; in_text_lem = v.among; word = m.0; in_line_lem = m.1; further = omega (arith, m.2, v.from); before = omega (arith, m.2); space = r.blank };
+        was = record { line = line_at b i; in_text = v.among; word = m.0; in_line = m.1; further = omega (arith, m.2, v.from); before = omega (arith, m.2); space = r.blank };
         is = r.turned;
       }
 
@@ -100,10 +100,10 @@ module _ (b a : List ℕ) (p : ℕ) where
   pub is_broke : length a ≡ length b → p < length b → Broken b a p → Broke
   is_broke n l h =
       let w = h.was in
-      let v = line_starts_lem b w.in_text_lem in
+      let v = line_starts_lem b w.in_text in
       let i = v.place in
       let body = body_of b (line_at b i) in
-      let m : w.word ∈ words body = rw v.same at w.in_line_lem in
+      let m : w.word ∈ words body = rw v.same at w.in_line in
       let g = word_inside body w.word m w.further in
       let k = word_between body w.word m w.further in
       let o = body_length b i v.inside in

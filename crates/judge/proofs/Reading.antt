@@ -36,10 +36,10 @@ reading_start width {before} h e w = record { whole = w; inside = omega arith; s
 -- ---- what one input line gives
 
 -- By what is wrong with it: the line that is too wide,
-wide_of : (f : Found) (t : Bool) {r : Lined} {o : Offset} → r ≡ lined_by f t → r ≡ Wide o → f ≡ At o
-wide_of (At p) t {o = o} e h = let z : Wide p ≡ Wide o = sym e ∙ h in cc
-wide_of Nowhere true {o = o} e h = let z : Many ≡ Wide o = sym e ∙ h in let y : ◌≡◌ {A = ℕ} 0 1 = cc in absurd (omega arith)
-wide_of Nowhere false {o = o} e h = let z : Good ≡ Wide o = sym e ∙ h in let y : ◌≡◌ {A = ℕ} 0 1 = cc in absurd (omega arith)
+wide_of_lem : (f : Found) (t : Bool) {r : Lined} {o : Offset} → r ≡ lined_by f t → r ≡ Wide o → f ≡ At o
+wide_of_lem (At p) t {o = o} e h = let z : Wide p ≡ Wide o = sym e ∙ h in cc
+wide_of_lem Nowhere true {o = o} e h = let z : Many ≡ Wide o = sym e ∙ h in let y : ◌≡◌ {A = ℕ} 0 1 = cc in absurd (omega arith)
+wide_of_lem Nowhere false {o = o} e h = let z : Good ≡ Wide o = sym e ∙ h in let y : ◌≡◌ {A = ℕ} 0 1 = cc in absurd (omega arith)
 
 -- or none, and whether it has too many.
 none_of : (f : Found) (t : Bool) (r : Lined) → r ≡ lined_by f t → ((o : Offset) → r ≡ Wide o → ⊥) → f ≡ Nowhere
@@ -93,7 +93,7 @@ module _ {width : ℕ} {before after : List ℕ} {many : Found} {at : ℕ} (k : 
 
       pub reading_wide : {o : Offset} → r ≡ Wide o → WideLine o ≡ lines_of width before after (input_lines before)
       unfolding lines_of first_in
-      reading_wide h = rw (← k.wide, lines_are, wide_of (wide_in width before after (line_at before at)) (many_of width after at (words (body_of before (line_at before at)))) lined_is h)
+      reading_wide h = rw (← k.wide, lines_are, wide_of_lem (wide_in width before after (line_at before at)) (many_of width after at (words (body_of before (line_at before at)))) lined_is h)
 
       pub reading_again : {m : Found} → ((o : Offset) → r ≡ Wide o → ⊥) → m ≡ many_next many r at → Reading width before after m (e + 1)
       unfolding first_in

@@ -40,9 +40,9 @@ at_allowed s i q p l m b e =
       omega (arith, h, n, e, (body_inside s i l).1, (line_inside s i l).1),
       record {
         line = line_at s i;
-        in_text_lem = m;
+        in_text = m;
         word = b.word;
-        in_line_lem = b.among;
+        in_line = b.among;
         further = b.further;
         before = omega (arith, e, b.place, b.further);
         space = rw e (sym (body_byte s i q l h) ∙ d);

@@ -9,9 +9,9 @@ use Rattle.lines.specs.Lines.{InputLine, input_lines, body_of}
 -- Byte p of a text is a space and stands directly before a word of an input line that is not the line's first: so it is the last space of the word before.
 pub record AllowedBreak (s : List ℕ) (p : ℕ) : Type 0 where
   pub line : InputLine
-  pub in_text_lem : line ∈ input_lines s
+  pub in_text : line ∈ input_lines s
   pub word : Word
-  pub in_line_lem : word ∈ words (body_of s line)
+  pub in_line : word ∈ words (body_of s line)
   pub further : 0 < start_of word
   pub before : suc p ≡ line.start + start_of word
   pub space : get_or s p 0 ≡ 0x20
