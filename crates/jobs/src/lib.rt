@@ -3,7 +3,7 @@
 // cases of `job_cases` run the same code.
 #![tactic(auto)]
 
-ghost use Rattle.std.specs.Prelude.{◌≡◌, ◌≤◌, length};
+ghost use Rattle.std.specs.Prelude.{◌≡◌, ◌≤◌, length, OnErr};
 ghost use Rattle.units.specs.Limits.{text_most};
 
 use record::{HEAD_BYTES, Head, Reply};
@@ -67,9 +67,10 @@ fn serve_one<R: Read, W: Write>(
 }
 
 // Replies to the records of an input, in order, until it ends, `record` says stop or a write fails, with
-// its error. The buffer is for the text of one job at a time.
+// its error. The buffer is for the text of one job at a time; an error leaves what was read last in it.
 pub fn serve<R: Read, W: Write>(buffer: &mut [u8], input: &mut R, output: &mut W) -> io::Result<()>
     requires { length buffer.old ≡ text_most }
+    ensures err { OnErr result (length buffer.new ≡ text_most) }
 {
     // a proved loop ends: this many records come in no day, and in no thousand years
     let mut left = u64::MAX;
