@@ -1,3 +1,3 @@
-pub mod Words
+pub mod Block
 pub mod Asking
 pub mod Examples

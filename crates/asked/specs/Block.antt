@@ -1,5 +1,5 @@
 -- The arguments as one row of bytes: each argument, and a byte 0 after it. A word is what stands before a 0, or before the end.
-use Rattle.std.specs.Prelude.{ℕ, ◌+◌, ◌-◌, Bool, true, false, ◌&&◌, not, List, [], ◌∷◌, eqb, ltb, length, take, drop}
+use Rattle.std.specs.Prelude.{◌≡◌, ℕ, ◌+◌, ◌-◌, Bool, true, false, ◌&&◌, not, List, [], ◌∷◌, eqb, ltb, leb, length, take, drop}
 use Rattle.logic.specs.Choice.{pick}
 use Rattle.logic.specs.Count.{count}
 use Rattle.asked.specs.declared.Part.{Part}
@@ -24,6 +24,15 @@ part_at b at = record { start = at; end = end_at b at }
 
 abbrev pub nowhere : Part
 nowhere = record { start = 0; end = 0 }
+
+-- There is no word at a place.
+abbrev pub none : List ℕ → ℕ → Bool
+none b at = leb (length b) at
+
+-- The words of c from a place on are those of b after the word at another.
+pub record IsAfter (c : List ℕ) (next : ℕ) (b : List ℕ) (at : ℕ) : Type 0 where
+  pub block : c ≡ b
+  pub place : next ≡ after_of b at
 
 -- Two rows of bytes are the same.
 unfoldable pub same : List ℕ → List ℕ → Bool

@@ -4,9 +4,9 @@
 #![tactic(auto)]
 
 ghost use Rattle.std.specs.Prelude.{◌≡◌, ◌≤◌, length};
-ghost use Rattle.decimal.specs.Decimal.{decimal, is_number};
-ghost use Rattle.asked.specs.Block.{in_word, end_at, after_of, word_at, part_at, same, run_after, runs_over};
-ghost use Rattle.asked.specs.Plan.{is_help, command_of, other_of, is_input, file_at, one_file_of, one_word_of, two_words_of, sized_of, pair_of, triple_of, check_of, measuring_of, listing_of, filling_of, showing_of, commanded_of, plan_of};
+ghost use Rattle.decimal.specs.Decimal.{parse};
+ghost use Rattle.asked.specs.Block.{in_word, end_at, word_at, part_at, none, IsAfter, same, run_after, runs_over};
+ghost use Rattle.asked.specs.Plan.{misuse, is_help, command_of, is_input, file_at, one_file_of, one_word_of, two_words_of, sized_of, pair_of, triple_of, check_of, commanded_of, plan_of};
 
 // The columns of the slip printer, where no width is given.
 pub const WIDTH: u32 = 42;
@@ -42,8 +42,15 @@ pub enum Wrong {
     TooLong,
 }
 
+// Arguments that ask for nothing: what is wrong with them, and the word that is.
+#[derive(Clone, Copy)]
+pub struct Misuse {
+    pub wrong: Wrong,
+    pub word: Part,
+}
+
 // What is asked for: the help; a text measured, its words listed, filled at a width, or shown at a width; a
-// text and another that came of it, checked at a width. Or what is wrong, with the word that is.
+// text and another that came of it, checked at a width.
 #[derive(Clone, Copy)]
 pub enum Plan {
     Help,
@@ -52,10 +59,9 @@ pub enum Plan {
     Fill(u32, File),
     Show(u32, File),
     Check(u32, File, File),
-    Misuse(Wrong, Part),
 }
 
-// The commands; `Unknown` is any other word.
+// The commands.
 #[derive(Clone, Copy)]
 enum Command {
     Help,
@@ -64,94 +70,55 @@ enum Command {
     Fill,
     Show,
     Check,
-    Unknown,
 }
 
-// What the words after a command that takes one file name; or a word too many.
-#[derive(Clone, Copy)]
-enum OneFile {
-    From(File),
-    More(Part),
+// Whether a word asks for the help.
+fn is_help(word: &[u8]) -> bool
+    ensures { result ≡ is_help word.now }
+{
+    is_same(word, b"help") || is_same(word, b"--help") || is_same(word, b"-h")
 }
 
-// What the words after a command that takes a width and a file say; or what is wrong.
-#[derive(Clone, Copy)]
-enum Sized {
-    At(u32, File),
-    Bad(Wrong, Part),
+// The command that a word is.
+impl<'a> TryFrom<&'a [u8]> for Command {
+    type Error = Wrong;
+
+    #[tactic(auto, using(logic::proofs::Choice::picks), unfolding(crate::specs::Plan::command_of))]
+    fn try_from(word: &'a [u8]) -> Result<Command, Wrong>
+        ensures { result ≡ command_of word.now }
+    {
+        if is_same(word, b"measure") {
+            Ok(Command::Measure)
+        } else if is_same(word, b"words") {
+            Ok(Command::Words)
+        } else if is_same(word, b"fill") {
+            Ok(Command::Fill)
+        } else if is_same(word, b"show") {
+            Ok(Command::Show)
+        } else if is_same(word, b"check") {
+            Ok(Command::Check)
+        } else if is_help(word) {
+            Ok(Command::Help)
+        } else {
+            Err(Wrong::NoSuchCommand)
+        }
+    }
 }
 
 // ---- words
 
-fn in_word(b: u8) -> bool
-    ensures { result ≡ in_word b }
-{
-    !(b == 0)
-}
-
-// Where the word that starts at a place ends: at its 0, or at the end of the block.
-fn word_end(block: &[u8], from: usize) -> usize
-    ensures { result ≡ end_at block.now from }
-{
-    let mut at = from;
-    while at < block.len() {
-        if !in_word(block[at]) {
-            return at;
-        }
-        at += 1;
-    }
-    at
-}
-
-// Where the word after the one that starts at a place starts: past its 0.
-fn after(block: &[u8], at: usize) -> usize
-    ensures { result ≡ after_of block.now at }
-{
-    let end = word_end(block, at);
-    if end < block.len() { end + 1 } else { end }
-}
-
-// The word that starts at a place, by where it stands.
-fn part_at(block: &[u8], at: usize) -> Part
-    ensures { result ≡ part_at block.now at }
-{
-    Part {
-        start: at,
-        end: word_end(block, at),
-    }
-}
-
-// No word of the block.
-fn nowhere() -> Part
-    ensures { result ≡ record { start = 0; end = 0 } }
-{
-    Part { start: 0, end: 0 }
-}
-
 // Whether two rows of bytes are the same.
+#[tactic(auto, using(crate::proofs::Block::same_pairs))]
 pub fn is_same(a: &[u8], b: &[u8]) -> bool
     ensures { result ≡ same a.now b.now }
 {
-    if a.len() != b.len() {
-        return false;
-    }
-    let mut i = 0;
-    while i < a.len() {
-        if a[i] != b[i] {
-            return false;
-        }
-        i += 1;
-    }
-    true
+    a == b
 }
 
-// Whether the word that starts at a place is the one given.
-fn is_word(block: &[u8], at: usize, word: &[u8]) -> bool
-    requires { at ≤ length block.now }
-    ensures { result ≡ same (word_at block.now at) word.now }
+fn in_word(b: u8) -> bool
+    ensures { result ≡ in_word b }
 {
-    let end = word_end(block, at);
-    is_same(&block[at..end], word)
+    b != 0
 }
 
 // How many bytes of a word are passed after one more byte.
@@ -163,266 +130,265 @@ fn run_after(run: usize, b: u8) -> usize
 }
 
 // Whether a word of the block has more bytes than an argument may.
+#[tactic(auto, using(crate::proofs::Block::running))]
 fn has_long(block: &[u8]) -> bool
     ensures { result ≡ runs_over 4095 0 block.now }
 {
     let mut run = 0;
-    let mut at = 0;
-    while at < block.len() {
-        run = run_after(run, block[at]);
+    for &b in block {
+        run = run_after(run, b);
         if ARGUMENT_MOST < run {
             return true;
         }
-        at += 1;
     }
     false
 }
 
-// ---- what a word says
-
-// Whether the word that starts at a place is a number.
-fn is_width(block: &[u8], at: usize) -> bool
-    requires { at ≤ length block.now }
-    ensures { result ≡ is_number (word_at block.now at) }
-{
-    let end = word_end(block, at);
-    decimal::is_number(&block[at..end])
+// The words of the block from a place on.
+#[derive(Clone, Copy)]
+struct Words<'a> {
+    block: &'a [u8],
+    at: usize,
+    ghost inside: { at ≤ length block.now },
 }
 
-// The number that the word that starts at a place is.
-fn width_at(block: &[u8], at: usize) -> u32
-    requires { at ≤ length block.now }
-    ensures { result ≡ decimal 0 (word_at block.now at) }
-{
-    let end = word_end(block, at);
-    let n = decimal::number_of(&block[at..end]);
-    n as u32
+impl<'a> Words<'a> {
+    // Whether there is none.
+    fn is_empty(self) -> bool
+        ensures { result ≡ none self.entry.block.now self.entry.at }
+    {
+        self.block.len() <= self.at
+    }
+
+    // Where the first of them ends: at its 0, or at the end of the block.
+    fn end(self) -> usize
+        ensures value { result ≡ end_at self.entry.block.now self.entry.at }
+        ensures after { self.entry.at ≤ result }
+        ensures inside { result ≤ length self.entry.block.now }
+    {
+        let run = self.block[self.at..].iter().take_while(|b| in_word(**b));
+        self.at + run.count()
+    }
+
+    // The bytes of the first,
+    fn bytes(self) -> &'a [u8]
+        ensures { result.now ≡ word_at self.entry.block.now self.entry.at }
+    {
+        &self.block[self.at..self.end()]
+    }
+
+    // and where it stands.
+    fn part(self) -> Part
+        ensures { result ≡ part_at self.entry.block.now self.entry.at }
+    {
+        Part {
+            start: self.at,
+            end: self.end(),
+        }
+    }
+
+    // The words after the first: past its 0.
+    #[tactic(auto, using(crate::proofs::Block::after_least))]
+    fn rest(self) -> Words<'a>
+        ensures { IsAfter result.block.now result.at self.entry.block.now self.entry.at }
+    {
+        Words {
+            block: self.block,
+            at: self.block.len().min(self.end() + 1),
+        }
+    }
+
+    // What is wrong, with the first as the word that is.
+    fn misuse(self, wrong: Wrong) -> Misuse
+        ensures { result ≡ misuse wrong (part_at self.entry.block.now self.entry.at) }
+    {
+        Misuse {
+            wrong,
+            word: self.part(),
+        }
+    }
+
+    // The number that the first is, where it is one.
+    fn width(self) -> Option<u32>
+        ensures { result ≡ parse (word_at self.entry.block.now self.entry.at) }
+    {
+        let width = decimal::parse(self.bytes())?;
+        Some(width as u32)
+    }
+
+    // Whether the first stands for standard input.
+    fn is_input(self) -> bool
+        ensures { result ≡ is_input self.entry.block.now self.entry.at }
+    {
+        is_same(self.bytes(), b"-")
+    }
+
+    // Where a text comes from, by the first.
+    #[tactic(auto, using(crate::proofs::Asking::files))]
+    fn file(self) -> File
+        ensures { result ≡ file_at self.entry.block.now self.entry.at }
+    {
+        if self.is_input() {
+            File::Input
+        } else {
+            File::Named(self.part())
+        }
+    }
 }
 
-// Whether the word that starts at a place stands for standard input.
-fn is_input(block: &[u8], at: usize) -> bool
-    requires { at ≤ length block.now }
-    ensures { result ≡ is_input block.now at }
+// What is wrong where no word of the block is.
+fn nowhere(wrong: Wrong) -> Misuse
+    ensures { result ≡ misuse wrong (record { start = 0; end = 0 }) }
 {
-    is_word(block, at, b"-")
-}
-
-// Where a text comes from, by the word that starts at a place.
-fn file_at(block: &[u8], at: usize) -> File
-    requires { at ≤ length block.now }
-    ensures { result ≡ file_at block.now at }
-{
-    if is_input(block, at) {
-        return File::Input;
+    Misuse {
+        wrong,
+        word: Part { start: 0, end: 0 },
     }
-    File::Named(part_at(block, at))
-}
-
-// Whether the first word asks for the help.
-fn is_help(block: &[u8]) -> bool
-    ensures { result ≡ is_help (word_at block.now 0) }
-{
-    is_word(block, 0, b"help") | is_word(block, 0, b"--help") | is_word(block, 0, b"-h")
-}
-
-// The command that the first word is,
-fn first_word(block: &[u8]) -> Command
-    ensures { result ≡ command_of (word_at block.now 0) }
-{
-    if is_word(block, 0, b"measure") {
-        return Command::Measure;
-    }
-    if is_word(block, 0, b"words") {
-        return Command::Words;
-    }
-    if is_word(block, 0, b"fill") {
-        return Command::Fill;
-    }
-    other_word(block)
-}
-
-// where it is none of the first three.
-fn other_word(block: &[u8]) -> Command
-    ensures { result ≡ other_of (word_at block.now 0) }
-{
-    if is_word(block, 0, b"show") {
-        return Command::Show;
-    }
-    if is_word(block, 0, b"check") {
-        return Command::Check;
-    }
-    if is_help(block) {
-        return Command::Help;
-    }
-    Command::Unknown
 }
 
 // ---- what the words after a command say
 
-// `[FILE]`, from a place on.
-fn one_file(block: &[u8], at: usize) -> OneFile
-    ensures { result ≡ one_file_of block.now at }
+// `[FILE]`
+#[tactic(auto, using(crate::proofs::Asking::one))]
+fn one_file(words: Words) -> Result<File, Misuse>
+    ensures { result ≡ one_file_of words.entry.block.now words.entry.at }
 {
-    if block.len() <= at {
-        return OneFile::From(File::Input);
+    if words.is_empty() {
+        return Ok(File::Input);
     }
-    let second = after(block, at);
-    if block.len() <= second {
-        return OneFile::From(file_at(block, at));
+    let second = words.rest();
+    if second.is_empty() {
+        return Ok(words.file());
     }
-    OneFile::More(part_at(block, second))
+    Err(second.misuse(Wrong::TooMany))
 }
 
 // One word where a width and a file may stand: a number is the width.
-fn one_word(block: &[u8], at: usize) -> Sized
-    requires { at ≤ length block.now }
-    ensures { result ≡ one_word_of block.now at }
+#[tactic(auto, using(crate::proofs::Asking::sizes))]
+fn one_word(word: Words) -> (u32, File)
+    ensures { result ≡ one_word_of word.entry.block.now word.entry.at }
 {
-    if is_width(block, at) {
-        return Sized::At(width_at(block, at), File::Input);
+    match word.width() {
+        Some(width) => (width, File::Input),
+        None => (WIDTH, word.file()),
     }
-    Sized::At(WIDTH, file_at(block, at))
 }
 
 // Two words where a width and a file stand.
-fn two_words(block: &[u8], at: usize, second: usize) -> Sized
-    requires at_in_bounds { at ≤ length block.now }
-    requires second_in_bounds { second ≤ length block.now }
-    ensures { result ≡ two_words_of block.now at second }
+#[tactic(auto, using(crate::proofs::Asking::sizes))]
+fn two_words(words: Words, second: Words) -> Result<(u32, File), Misuse>
+    requires { IsAfter second.block.now second.at words.block.now words.at }
+    ensures { result ≡ two_words_of words.entry.block.now words.entry.at second.entry.at }
 {
-    if is_width(block, at) {
-        return Sized::At(width_at(block, at), file_at(block, second));
+    match words.width() {
+        Some(width) => Ok((width, second.file())),
+        None => Err(words.misuse(Wrong::NotWidth)),
     }
-    Sized::Bad(Wrong::NotWidth, part_at(block, at))
 }
 
-// `[WIDTH] [FILE]`, from a place on.
-fn width_and_file(block: &[u8], at: usize) -> Sized
-    ensures { result ≡ sized_of block.now at }
+// `[WIDTH] [FILE]`
+#[tactic(auto, using(crate::proofs::Asking::sizing))]
+fn width_and_file(words: Words) -> Result<(u32, File), Misuse>
+    ensures { result ≡ sized_of words.entry.block.now words.entry.at }
 {
-    if block.len() <= at {
-        return Sized::At(WIDTH, File::Input);
+    if words.is_empty() {
+        return Ok((WIDTH, File::Input));
     }
-    let second = after(block, at);
-    if block.len() <= second {
-        return one_word(block, at);
+    let second = words.rest();
+    if second.is_empty() {
+        return Ok(one_word(words));
     }
-    let third = after(block, second);
-    if block.len() <= third {
-        return two_words(block, at, second);
+    let third = second.rest();
+    if third.is_empty() {
+        return two_words(words, second);
     }
-    Sized::Bad(Wrong::TooMany, part_at(block, third))
+    Err(third.misuse(Wrong::TooMany))
 }
 
 // The check of two texts at a width, by the words that name them.
-fn pair(block: &[u8], width: u32, before: usize, other: usize) -> Plan
-    requires before_in_bounds { before ≤ length block.now }
-    requires other_in_bounds { other ≤ length block.now }
-    ensures { result ≡ pair_of block.now width before other }
+#[tactic(auto, using(crate::proofs::Asking::pairs))]
+fn pair(width: u32, before: Words, after: Words) -> Result<Plan, Misuse>
+    requires { before.block.now ≡ after.block.now }
+    ensures { result ≡ pair_of before.entry.block.now width before.entry.at after.entry.at }
 {
-    if is_input(block, before) & is_input(block, other) {
-        return Plan::Misuse(Wrong::BothInput, part_at(block, other));
+    if before.is_input() && after.is_input() {
+        return Err(after.misuse(Wrong::BothInput));
     }
-    Plan::Check(width, file_at(block, before), file_at(block, other))
+    Ok(Plan::Check(width, before.file(), after.file()))
 }
 
 // Three words after `check`: the first is the width.
-fn triple(block: &[u8], first: usize, second: usize, third: usize) -> Plan
-    requires first_in_bounds { first ≤ length block.now }
-    requires second_in_bounds { second ≤ length block.now }
-    requires third_in_bounds { third ≤ length block.now }
-    ensures { result ≡ triple_of block.now first second third }
+#[tactic(auto, using(crate::proofs::Asking::triples))]
+fn triple(first: Words, second: Words, third: Words) -> Result<Plan, Misuse>
+    requires second_after { IsAfter second.block.now second.at first.block.now first.at }
+    requires third_after { IsAfter third.block.now third.at second.block.now second.at }
+    ensures { result ≡ triple_of first.entry.block.now first.entry.at second.entry.at third.entry.at }
 {
-    if is_width(block, first) {
-        return pair(block, width_at(block, first), second, third);
+    match first.width() {
+        Some(width) => pair(width, second, third),
+        None => Err(first.misuse(Wrong::NotWidth)),
     }
-    Plan::Misuse(Wrong::NotWidth, part_at(block, first))
 }
 
-// `[WIDTH] BEFORE AFTER`, from a place on.
-fn checked(block: &[u8], first: usize) -> Plan
-    ensures { result ≡ check_of block.now first }
+// `[WIDTH] BEFORE AFTER`
+#[tactic(auto, using(crate::proofs::Asking::checks))]
+fn checked(first: Words) -> Result<Plan, Misuse>
+    ensures { result ≡ check_of first.entry.block.now first.entry.at }
 {
-    if block.len() <= first {
-        return Plan::Misuse(Wrong::TooFew, nowhere());
+    if first.is_empty() {
+        return Err(nowhere(Wrong::TooFew));
     }
-    let second = after(block, first);
-    if block.len() <= second {
-        return Plan::Misuse(Wrong::TooFew, nowhere());
+    let second = first.rest();
+    if second.is_empty() {
+        return Err(nowhere(Wrong::TooFew));
     }
-    let third = after(block, second);
-    if block.len() <= third {
-        return pair(block, WIDTH, first, second);
+    let third = second.rest();
+    if third.is_empty() {
+        return pair(WIDTH, first, second);
     }
-    let fourth = after(block, third);
-    if block.len() <= fourth {
-        return triple(block, first, second, third);
+    let fourth = third.rest();
+    if fourth.is_empty() {
+        return triple(first, second, third);
     }
-    Plan::Misuse(Wrong::TooMany, part_at(block, fourth))
+    Err(fourth.misuse(Wrong::TooMany))
 }
 
 // ---- the plan
 
-fn measuring(one: OneFile) -> Plan
-    ensures { result ≡ measuring_of one }
-{
-    match one {
-        OneFile::From(file) => Plan::Measure(file),
-        OneFile::More(word) => Plan::Misuse(Wrong::TooMany, word),
-    }
-}
-
-fn listing(one: OneFile) -> Plan
-    ensures { result ≡ listing_of one }
-{
-    match one {
-        OneFile::From(file) => Plan::Words(file),
-        OneFile::More(word) => Plan::Misuse(Wrong::TooMany, word),
-    }
-}
-
-fn filling(given: Sized) -> Plan
-    ensures { result ≡ filling_of given }
-{
-    match given {
-        Sized::At(width, file) => Plan::Fill(width, file),
-        Sized::Bad(wrong, word) => Plan::Misuse(wrong, word),
-    }
-}
-
-fn showing(given: Sized) -> Plan
-    ensures { result ≡ showing_of given }
-{
-    match given {
-        Sized::At(width, file) => Plan::Show(width, file),
-        Sized::Bad(wrong, word) => Plan::Misuse(wrong, word),
-    }
-}
-
-// What a command asks for with the words after it, from a place on.
-fn commanded(block: &[u8], command: Command, at: usize) -> Plan
-    ensures { result ≡ commanded_of block.now command at }
+// What a command asks for with the words after it.
+fn commanded(command: Command, words: Words) -> Result<Plan, Misuse>
+    ensures { result ≡ commanded_of words.entry.block.now command words.entry.at }
 {
     match command {
-        Command::Help => Plan::Help,
-        Command::Measure => measuring(one_file(block, at)),
-        Command::Words => listing(one_file(block, at)),
-        Command::Fill => filling(width_and_file(block, at)),
-        Command::Show => showing(width_and_file(block, at)),
-        Command::Check => checked(block, at),
-        Command::Unknown => Plan::Misuse(Wrong::NoSuchCommand, part_at(block, 0)),
+        Command::Help => Ok(Plan::Help),
+        Command::Measure => Ok(Plan::Measure(one_file(words)?)),
+        Command::Words => Ok(Plan::Words(one_file(words)?)),
+        Command::Fill => {
+            let (width, file) = width_and_file(words)?;
+            Ok(Plan::Fill(width, file))
+        }
+        Command::Show => {
+            let (width, file) = width_and_file(words)?;
+            Ok(Plan::Show(width, file))
+        }
+        Command::Check => checked(words),
     }
 }
 
 // What the arguments ask for.
-pub fn plan_of(block: &[u8]) -> Plan
+#[tactic(auto, using(crate::proofs::Asking::plans))]
+pub fn plan_of(block: &[u8]) -> Result<Plan, Misuse>
     ensures { result ≡ plan_of block.now }
 {
     if has_long(block) {
-        return Plan::Misuse(Wrong::TooLong, nowhere());
+        return Err(nowhere(Wrong::TooLong));
     }
-    if block.len() == 0 {
-        return Plan::Misuse(Wrong::NoCommand, nowhere());
+    let words = Words { block, at: 0 };
+    if words.is_empty() {
+        return Err(nowhere(Wrong::NoCommand));
     }
-    commanded(block, first_word(block), after(block, 0))
+    match Command::try_from(words.bytes()) {
+        Ok(command) => commanded(command, words.rest()),
+        Err(wrong) => Err(words.misuse(wrong)),
+    }
 }

@@ -12,13 +12,13 @@ use Rattle.logic.specs.Choice.{within}
 use Rattle.logic.specs.Block.{any}
 use Rattle.logic.proofs.Choice.{both, clash, and_true, neither, outside, within_true, within_below, within_says}
 use Rattle.logic.proofs.Block.{none_passes, all_fail}
-use Rattle.chars.specs.declared.Checked.TheVariants as answer
 use Rattle.chars.specs.Utf8.{tail, utf8_1, utf8_2, utf8_3, utf8_4, Found, point_2, point_3, point_4, head4, head_of, decode_from, bytes, first_fault, Whole, checked}
 use Rattle.chars.specs.Second.{second_least, second_most}
 use Rattle.chars.specs.Windows.{due, narrow, never, wrong, wrong_at, padded, high_at, Clear}
 use Rattle.chars.proofs.Second.{least_ways, most_ways, is_3, is_4}
 use Rattle.chars.proofs.Laws.{head_fits, head_char}
 use Rattle.chars.proofs.Reading.{past_end, above_1, above_2, above_3}
+use Rattle.std.specs.Prelude.{None}
 
 -- ---- what a window says that is not wrong
 
@@ -252,7 +252,11 @@ clear_step {s} {at} {r} k e f = record {
       rw m at (none_passes (wrong_at s) at 64 n (i - at) (omega arith)));
 }
 
-pub ruleset clearing = (clear_start, clear_step)
+-- A place that comes no later.
+pub clear_last : {s : List ℕ} {at last : ℕ} {r : Bool} → Clear s at → r ≡ any (wrong_at s) at 64 → r ≡ false → last ≤ at + 64 → Clear s last
+clear_last k e f l = let h = clear_step k e f in record { none = λ i m. h.none i (omega arith) }
+
+pub ruleset clearing = (clear_start, clear_step, clear_last)
 
 -- `is_right` has tested every window: those of the first three bytes, those before the last block, the last block's and that of the end.
 start_right : (s : List ℕ) → any (wrong_at (padded s)) 0 3 ≡ false → ((i : ℕ) → i + 3 ≤ length s → wrong_at s i ≡ false) → (i : ℕ) → i ≤ length s → wrong_at (padded s) i ≡ false
@@ -277,5 +281,5 @@ right_text s {a} {b} {e} {n} l ea eb ee c t =
     right_whole s (start_right s (sym ea ∙ f.0) (end_right s (length s - 67 + 64) (clear_step k eb f.1) (omega arith) (sym ee ∙ g.1)))
 
 -- `first_fault`, where no window is wrong
-pub whole_checked : (s : List ℕ) {r : Bool} → (r ≡ true → Whole s) → r ≡ true → answer.Whole ≡ checked s
+pub whole_checked : (s : List ℕ) {r : Bool} → (r ≡ true → Whole s) → r ≡ true → None ≡ checked s
 whole_checked s f e = rw (f e, le-ltb (length s) (length s) (omega arith))

@@ -1,4 +1,5 @@
 -- Line widths past the 4,096th are never met: line numbers are below the number of fragments. So the widths that are read are enough.
+use Rattle.std.proofs.Common.{Result}
 use mathlib.Core.Path.{◌≡◌, refl, sym, ap, ◌∙◌}
 use mathlib.Core.Bool.{Bool}
 use mathlib.Core.List.{List, [], ◌∷◌}
@@ -11,9 +12,9 @@ use borrow.Author.Tests.{ltb-true, ltb-false}
 use Rattle.units.specs.Limits.{width_most}
 use Rattle.logic.specs.Count.{count}
 use Rattle.logic.proofs.Choice.{both}
-use Rattle.fragments.specs.declared.Laid.{Laid}
-use Rattle.fragments.specs.Lists.{width_of, first_above, tested_of}
-use Rattle.fragments.proofs.Laws.{Sound, tested_good, good_tested, width_in}
+use Rattle.fragments.specs.declared.ListRefusal.{ListRefusal}
+use Rattle.fragments.specs.Lists.{width_of, found, first_above, tested_of}
+use Rattle.fragments.proofs.Laws.{Sound, found_none, none_found, tested_good, good_tested, width_in}
 use Rattle.cheapest.specs.Least.{first_least}
 use Rattle.cheapest.specs.Lines.{line_of}
 use Rattle.cheapest.specs.Table.{at, via, choice, table_of, best_costs, chosen_starts}
@@ -90,7 +91,9 @@ all_taken p (b ∷ l) (suc m) h =
 module _ {w s p ws : List ℕ} {P : Penalties} {E C S : List ℕ} (g : Begun w s p ws P E C S) where
   narrow : Sound (length w) (length s) (length p) × (length ws ≤ first_above width_most ws)
   unfolding admitted
-  narrow = tested_good (length w) (length s) (length p) (first_above width_most ws) (length ws) refl (open_says _ _ _ _ _ _ (sym g.begun)).good
+  narrow =
+      let t = tested_good (length w) (length s) (length p) (found (first_above width_most ws) (length ws)) (open_says _ _ _ _ _ _ (sym g.begun)).good in
+      (t.0, none_found (first_above width_most ws) (length ws) t.1)
 
   pub begun_whites : length s ≡ length w
   begun_whites = narrow.0.whites_same
@@ -99,17 +102,18 @@ module _ {w s p ws : List ℕ} {P : Penalties} {E C S : List ℕ} (g : Begun w s
   begun_penalties = narrow.0.penalties_same
 
 module _ {w s p ws : List ℕ} {P : Penalties} {E C S : List ℕ} {m : ℕ} (g : Begun w s p ws P E C S) (e : m ≡ min (length ws) 4096) where
-  cut_tested : tested_of (length w) (length s) (length p) (first_above width_most (take m ws)) (length (take m ws)) ≡ tested_of (length w) (length s) (length p) (first_above width_most ws) (length ws)
+  cut_tested : tested_of (length w) (length s) (length p) (found (first_above width_most (take m ws)) (length (take m ws))) ≡ tested_of (length w) (length s) (length p) (found (first_above width_most ws) (length ws))
   unfolding first_above
   cut_tested =
-      good_tested (length w) (length s) (length p) (first_above width_most (take m ws)) (length (take m ws)) (narrow g).0 (all_taken (λ x. leb x width_most) ws m (narrow g).1)
-      ∙ sym (good_tested (length w) (length s) (length p) (first_above width_most ws) (length ws) (narrow g).0 (narrow g).1)
+      let n = narrow g in
+      good_tested (length w) (length s) (length p) _ n.0 (found_none _ _ (all_taken (λ x. leb x width_most) ws m n.1))
+      ∙ sym (good_tested (length w) (length s) (length p) _ n.0 (found_none _ _ n.1))
 
   pub begun_cut : Begun w s p (take m ws) P E C S
   unfolding admitted
   begun_cut = record { begun = rw cut_tested g.begun }
 
-  pub laid_cut : {r : Laid} {E' C' S' : List ℕ} → LaidBytes w s p (take m ws) P E C S r E' C' S' → LaidBytes w s p ws P E C S r E' C' S'
+  pub laid_cut : {r : Result ℕ ListRefusal} {E' C' S' : List ℕ} → LaidBytes w s p (take m ws) P E C S r E' C' S' → LaidBytes w s p ws P E C S r E' C' S'
   laid_cut k =
       let f = begun_few g in
       record {
@@ -136,5 +140,5 @@ module _ {w s p ws w' s' p' ws' : List ℕ} {P : Penalties} {E C S : List ℕ} {
   pub begun_read : Begun w' s' p' ws' P E C S
   begun_read = rw (a, b, c, d) (begun_cut g e)
 
-  pub laid_read : {r : Laid} {E' C' S' : List ℕ} → LaidBytes w' s' p' ws' P E C S r E' C' S' → LaidBytes w s p ws P E C S r E' C' S'
+  pub laid_read : {r : Result ℕ ListRefusal} {E' C' S' : List ℕ} → LaidBytes w' s' p' ws' P E C S r E' C' S' → LaidBytes w s p ws P E C S r E' C' S'
   laid_read k = laid_cut g e (rw (a, b, c, d) at k)

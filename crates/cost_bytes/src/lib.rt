@@ -3,13 +3,13 @@
 // over at the end of a list is no number and is not touched.
 #![tactic(auto)]
 
-ghost use Rattle.std.specs.Prelude.{◌≡◌, ◌≤◌, min, length, take};
+ghost use Rattle.std.specs.Prelude.{◌≡◌, ◌≤◌, length, take};
 ghost use Rattle.wire.specs.Wire.{numbers16};
-ghost use Rattle.cost_bytes.specs.Bytes.{LaidBytes, Begun, lines_in};
+ghost use Rattle.cost_bytes.specs.Bytes.{LaidBytes, Begun};
 
-use fragments::Laid;
-use least_cost::{Admission, Penalties};
-use units::WIDTH_MOST;
+use fragments::{FragmentLists, ListRefusal};
+use least_cost::Penalties;
+use wire::Cell;
 
 // The most fragments, and so the most lines and the most line widths that can be met.
 const MOST: usize = 4096;
@@ -17,118 +17,82 @@ const MOST: usize = 4096;
 // The positions before, between and after them.
 const POSITIONS: usize = 4097;
 
-// How many lines an answer has.
-fn lines_in(laid: Laid) -> usize
-    ensures { result ≡ lines_in laid }
-{
-    match laid {
-        Laid::Lines(k) => k,
-        Laid::Unequal => 0,
-        Laid::TooMany => 0,
-        Laid::TooWide(_) => 0,
-        Laid::BigPenalty(_) => 0,
-        Laid::NoRoom(_) => 0,
-        Laid::TooDear => 0,
-    }
-}
-
-// The smaller of a number and 4,096.
-fn at_most(n: usize) -> usize
-    ensures { result ≡ min n 4096 }
-{
-    if n < MOST { n } else { MOST }
-}
-
 // Lays numbers out, and stores the ends, the costs and the starts as bytes.
 fn lay_numbers(
-    words: &[u16],
-    whites: &[u16],
-    penalties: &[u16],
+    lists: &FragmentLists<'_, u16>,
     widths: &[u16],
     p: Penalties,
     ends: &mut [u8],
     costs: &mut [u8],
     starts: &mut [u8],
-) -> Laid
-    requires { Begun words.now whites.now penalties.now widths.now p ends.old costs.old starts.old }
-    ensures { LaidBytes words.now whites.now penalties.now widths.now p ends.old costs.old starts.old
+) -> Result<usize, ListRefusal>
+    requires { Begun lists.now.words.now lists.now.whites.now lists.now.penalties.now widths.now p ends.old costs.old starts.old }
+    ensures { LaidBytes lists.now.words.now lists.now.whites.now lists.now.penalties.now widths.now p ends.old costs.old starts.old
         result ends.new costs.new starts.new }
 {
-    let n = words.len();
+    let n = lists.words.len();
     let mut e = [0u16; MOST];
     let mut c = [0u64; POSITIONS];
     let mut s = [0u16; POSITIONS];
-    let laid = least_cost::wrap_optimal_fit(
-        words, whites, penalties, widths, p, &mut e, &mut c, &mut s,
-    );
-    wire::write16s(&e, lines_in(laid), ends);
-    wire::write64s(&c, n + 1, costs);
-    wire::write16s(&s, n + 1, starts);
+    let laid = least_cost::wrap_optimal_fit(lists, widths, p, &mut e, &mut c, &mut s);
+    wire::copy_numbers::<u16, u16, u8>(&e, laid.unwrap_or(0), ends);
+    wire::copy_numbers::<u64, u64, u8>(&c, n + 1, costs);
+    wire::copy_numbers::<u16, u16, u8>(&s, n + 1, starts);
     laid
 }
 
 // Reads the numbers, and lays them out.
+#[tactic(auto, using(crate::proofs::Laying::begun_few, crate::proofs::Widths::begun_whites, crate::proofs::Widths::begun_penalties))]
 fn lay_bytes(
-    words: &[u8],
-    whites: &[u8],
-    penalties: &[u8],
+    lists: &FragmentLists<'_, u8>,
     widths: &[u8],
     p: Penalties,
     ends: &mut [u8],
     costs: &mut [u8],
     starts: &mut [u8],
-) -> Laid
-    requires { Begun (numbers16 words.now) (numbers16 whites.now) (numbers16 penalties.now) (numbers16 widths.now) p ends.old costs.old starts.old }
-    ensures { LaidBytes (numbers16 words.now) (numbers16 whites.now) (numbers16 penalties.now) (numbers16 widths.now) p
+) -> Result<usize, ListRefusal>
+    requires { Begun (numbers16 lists.now.words.now) (numbers16 lists.now.whites.now) (numbers16 lists.now.penalties.now) (numbers16 widths.now) p ends.old costs.old starts.old }
+    ensures { LaidBytes (numbers16 lists.now.words.now) (numbers16 lists.now.whites.now) (numbers16 lists.now.penalties.now) (numbers16 widths.now) p
         ends.old costs.old starts.old result ends.new costs.new starts.new }
 {
-    let n = wire::count16(words);
-    let m = at_most(wire::count16(widths));
+    let n = <u8 as Cell<u16>>::count(lists.words);
+    let m = <u8 as Cell<u16>>::count(widths).min(MOST);
     let mut a = [0u16; MOST];
     let mut b = [0u16; MOST];
     let mut c = [0u16; MOST];
     let mut d = [0u16; MOST];
-    wire::read16s(words, n, &mut a);
-    wire::read16s(whites, n, &mut b);
-    wire::read16s(penalties, n, &mut c);
-    wire::read16s(widths, m, &mut d);
-    lay_numbers(&a[..n], &b[..n], &c[..n], &d[..m], p, ends, costs, starts)
+    wire::copy_numbers::<u16, u8, u16>(lists.words, n, &mut a);
+    wire::copy_numbers::<u16, u8, u16>(lists.whites, n, &mut b);
+    wire::copy_numbers::<u16, u8, u16>(lists.penalties, n, &mut c);
+    wire::copy_numbers::<u16, u8, u16>(widths, m, &mut d);
+    let numbers = FragmentLists {
+        words: &a[..n],
+        whites: &b[..n],
+        penalties: &c[..n],
+    };
+    lay_numbers(&numbers, &d[..m], p, ends, costs, starts)
 }
 
 // Lays fragments out at the least cost: one end index per line, and the scratch; or refusal 5, 4, 3, 6, 7
 // or 8.
 pub fn wrap_optimal_fit(
-    words: &[u8],
-    whites: &[u8],
-    penalties: &[u8],
+    lists: &FragmentLists<'_, u8>,
     widths: &[u8],
     p: Penalties,
     ends: &mut [u8],
     costs: &mut [u8],
     starts: &mut [u8],
-) -> Laid
-    ensures { LaidBytes (numbers16 words.now) (numbers16 whites.now) (numbers16 penalties.now) (numbers16 widths.now) p
+) -> Result<usize, ListRefusal>
+    ensures { LaidBytes (numbers16 lists.now.words.now) (numbers16 lists.now.whites.now) (numbers16 lists.now.penalties.now) (numbers16 widths.now) p
         ends.old costs.old starts.old result ends.new costs.new starts.new }
 {
-    let n = wire::count16(words);
-    let wide = layout_bytes::first_above(widths, WIDTH_MOST as usize);
-    let tested = fragments::test_lists(
-        n,
-        wire::count16(whites),
-        wire::count16(penalties),
-        wide,
-        wire::count16(widths),
-    );
-    let big = least_cost::first_big(p);
-    match least_cost::admit(
-        tested,
-        big,
-        n,
-        ends.len() / 2,
-        costs.len() / 8,
-        starts.len() / 2,
-    ) {
-        Admission::Shut(why) => why,
-        Admission::Open => lay_bytes(words, whites, penalties, widths, p, ends, costs, starts),
-    }
+    least_cost::admit(
+        lists.test(widths),
+        least_cost::first_big(p),
+        <u8 as Cell<u16>>::count(lists.words),
+        <u8 as Cell<u16>>::count(ends),
+        <u8 as Cell<u64>>::count(costs),
+        <u8 as Cell<u16>>::count(starts),
+    )?;
+    lay_bytes(lists, widths, p, ends, costs, starts)
 }

@@ -1,6 +1,5 @@
 -- The walk over a line's words up to the first that passes the last column, and the cut there: what is still to come makes the whole cut.
 use mathlib.Core.Path.{◌≡◌, refl, sym, ◌∙◌}
-use mathlib.Core.Bool.{true, false}
 use mathlib.Core.List.{List}
 use Prim.Native.Nat.{ℕ, ◌+◌, ◌-◌, ◌*◌, ◌≤◌, ◌<◌}
 use native.Mathlib.Omega.{arith}
@@ -8,6 +7,7 @@ use lib.ListN.{length, take, drop, length-drop, length-take}
 use borrow.Author.Tests.{lt-ltb, le-ltb}
 use mir.Syntax.{w64}
 use mir.Val.{Fits}
+use Rattle.std.proofs.Common.{Some, None}
 use Rattle.units.specs.declared.Offset.{Offset}
 use Rattle.units.specs.Limits.{text_most}
 use Rattle.chars.specs.Utf8.{decode, Whole}
@@ -59,12 +59,12 @@ module _ (width : ℕ) (s : List ℕ) (c : ℕ) (x : Word) {left : ℕ} {p : Wor
   pub cut_fits : c ≤ 1000000 → length s ≤ text_most → Fits w64 (c + p.width.0)
   cut_fits h l = record { fits = omega (arith, piece_columns, fit_small (width - c) s x) }
 
-  pub cut_before : (k : Kept) → width < c + p.width.0 → record { wide = true; kept = k; dropped = x.start } ≡ cut_in width s c k x
+  pub cut_before : (k : Kept) → width < c + p.width.0 → record { kept = k; dropped = Some x.start } ≡ cut_in width s c k x
   unfolding cut_in
   cut_before k h = rw (lt-ltb width (c + fit_columns (width - c) s x) (omega (arith, piece_columns)))
 
   pub cut_after : (k : Kept) → c + p.width.0 ≤ width
-      → record { wide = true; kept = record { end = p.end; columns = record { 0 = c + p.width.0 } }; dropped = p.end } ≡ cut_in width s c k x
+      → record { kept = record { end = p.end; columns = record { 0 = c + p.width.0 } }; dropped = Some p.end } ≡ cut_in width s c k x
   unfolding cut_in
   cut_after k h = rw (le-ltb width (c + fit_columns (width - c) s x) (omega (arith, piece_columns)), piece_columns, piece_end_lem)
 
@@ -130,7 +130,7 @@ module _ {width : ℕ} {s : List ℕ} {at c : ℕ} {k : Kept} (i : Cutting width
           rw next_is (rw (words_next s at l, ← e, le-ltb width (c + x.width.0) h, n) at i.same);
     }
 
-  pub cutting_end : length s ≤ at → record { wide = false; kept = k; dropped = record { 0 = length s } } ≡ cut_of width s
+  pub cutting_end : length s ≤ at → record { kept = k; dropped = None } ≡ cut_of width s
   unfolding cut_from
   cutting_end h = rw (words_none s at h) at i.same
 

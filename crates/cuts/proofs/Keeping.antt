@@ -9,6 +9,7 @@ use lib.Dec.{ltb}
 use lib.ListN.{length, take, drop, drop_of_length-le}
 use lib.Seq.{take-take, length-take-le}
 use borrow.Author.Tests.{ltb-true, ltb-false}
+use Rattle.std.specs.Option.{is_some}
 use Rattle.logic.specs.Count.{count}
 use Rattle.logic.proofs.Choice.{both, clash}
 use Rattle.logic.proofs.Count.{count_some}
@@ -30,7 +31,7 @@ use Rattle.pieces.specs.Pieces.{piece, rest, piece_end}
 use Rattle.pieces.proofs.Fitting.{leaving, parts_width}
 use Rattle.pieces.proofs.Stepping.{piece_parts, piece_some}
 use Rattle.cuts.specs.declared.Kept.{Kept}
-use Rattle.cuts.specs.Cuts.{line_columns, fit_end, fit_columns, kept_to, nothing, cut_in, cut_from, cut_of}
+use Rattle.cuts.specs.Cuts.{line_columns, fit_end, fit_columns, kept_to, nothing, dropped_at, cut_in, cut_from, cut_of}
 
 -- ---- the words of a first part
 
@@ -209,7 +210,7 @@ kept_columns width s w = go (all_held width s w)
 
 -- ---- what is dropped
 
-in_some : (width : ℕ) (s : List ℕ) (c i : ℕ) (k : Kept) → i < length s → Whole (drop i s) → width < c + width_of_word (word_at s i) → (cut_in width s c k (word_at s i)).dropped.0 < length s
+in_some : (width : ℕ) (s : List ℕ) (c i : ℕ) (k : Kept) → i < length s → Whole (drop i s) → width < c + width_of_word (word_at s i) → dropped_at s (cut_in width s c k (word_at s i)).dropped < length s
 unfolding cut_in word_at
 in_some width s c i k l w h =
     both (ltb width (c + fit_columns (width - c) s (word_at s i)))
@@ -217,11 +218,11 @@ in_some width s c i k l w h =
     (λ f. rw f (held_short s c i k l width w h (ltb-false width (c + fit_columns (width - c) s (word_at s i)) f)))
 
 -- SOMETHING IS DROPPED of a line that is too wide.
-pub dropped_some : (width : ℕ) (s : List ℕ) → Whole s → (cut_of width s).wide ≡ true → (cut_of width s).dropped.0 < length s
+pub dropped_some : (width : ℕ) (s : List ℕ) → Whole s → is_some (cut_of width s).dropped ≡ true → dropped_at s (cut_of width s).dropped < length s
 unfolding cut_of cut_from words
 dropped_some width s w =
     items_each (word_at s) (after_word s) (length s) (λ i. Whole (drop i s)) (λ i p l. (after_later s i l, rest_whole s i p))
-    (λ i xs. (c : ℕ) (k : Kept) → (cut_from width s c k xs).wide ≡ true → (cut_from width s c k xs).dropped.0 < length s)
+    (λ i xs. (c : ℕ) (k : Kept) → is_some (cut_from width s c k xs).dropped ≡ true → dropped_at s (cut_from width s c k xs).dropped < length s)
     (λ i p l c k e. absurd (clash e refl))
     (λ i xs p l q c k.
     both (ltb width (c + width_of_word (word_at s i)))

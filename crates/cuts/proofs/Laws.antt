@@ -9,6 +9,7 @@ use lib.Dec.{ltb}
 use lib.ListN.{length, get_or, take, length-drop}
 use lib.Seq.{length-take-le}
 use borrow.Author.Tests.{eqb-true, lt-ltb, le-ltb, ltb-true, ltb-false}
+use Rattle.std.specs.Option.{is_some}
 use Rattle.logic.proofs.Choice.{both}
 use Rattle.logic.proofs.Count.{run_passes}
 use Rattle.logic.proofs.Items.{items_each}
@@ -25,7 +26,7 @@ use Rattle.pieces.specs.Pieces.{piece, rest, piece_end}
 use Rattle.pieces.proofs.Fitting.{leaving, fitting_leaving}
 use Rattle.cuts.specs.declared.Kept.{Kept}
 use Rattle.cuts.specs.declared.Cut.{Cut}
-use Rattle.cuts.specs.Cuts.{line_columns, fit_end, fit_columns, kept_to, nothing, cut_in, cut_from, cut_of}
+use Rattle.cuts.specs.Cuts.{line_columns, fit_end, fit_columns, kept_to, nothing, dropped_at, cut_in, cut_from, cut_of}
 
 -- ---- what is kept fits
 
@@ -51,7 +52,7 @@ kept_fits width s = from_fits width s 0 nothing (words s) (omega arith)
 
 -- ---- which lines are too wide
 
-in_wide : (width : ℕ) (s : List ℕ) (c : ℕ) (k : Kept) (x : Word) → (cut_in width s c k x).wide ≡ true
+in_wide : (width : ℕ) (s : List ℕ) (c : ℕ) (k : Kept) (x : Word) → is_some (cut_in width s c k x).dropped ≡ true
 unfolding cut_in
 in_wide width s c k x = both (ltb width (c + fit_columns (width - c) s x)) (λ t. rw t) (λ f. rw f)
 
@@ -61,7 +62,7 @@ unfolding line_width
 first_least_lem x [] = omega arith
 first_least_lem x (y ∷ ys) = omega arith
 
-from_wide : (width : ℕ) (s : List ℕ) (c : ℕ) (k : Kept) (x : Word) (xs : List Word) → (cut_from width s c k (x ∷ xs)).wide ≡ ltb width (c + line_columns (x ∷ xs))
+from_wide : (width : ℕ) (s : List ℕ) (c : ℕ) (k : Kept) (x : Word) (xs : List Word) → is_some (cut_from width s c k (x ∷ xs)).dropped ≡ ltb width (c + line_columns (x ∷ xs))
 unfolding cut_from line_width
 from_wide width s c k x [] = both (ltb width (c + width_of_word x)) (λ t. rw t (in_wide width s c k x)) (λ f. rw f)
 from_wide width s c k x (y ∷ ys) =
@@ -77,13 +78,13 @@ no_words : (width : ℕ) → false ≡ ltb width (line_columns [])
 unfolding line_width
 no_words width = sym (le-ltb width 0 (omega arith))
 
-all_wide : (width : ℕ) (s : List ℕ) (xs : List Word) → (cut_from width s 0 nothing xs).wide ≡ ltb width (line_columns xs)
+all_wide : (width : ℕ) (s : List ℕ) (xs : List Word) → is_some (cut_from width s 0 nothing xs).dropped ≡ ltb width (line_columns xs)
 unfolding cut_from
 all_wide width s [] = no_words width
 all_wide width s (x ∷ xs) = from_wide width s 0 nothing x xs ∙ ap (ltb width) (zero-add (line_columns (x ∷ xs)))
 
--- A line is too wide exactly if its columns exceed the width.
-pub wide_is : (width : ℕ) (s : List ℕ) → (cut_of width s).wide ≡ ltb width (line_columns (words s))
+-- A line is too wide, that is it loses something, exactly if its columns exceed the width.
+pub wide_is : (width : ℕ) (s : List ℕ) → is_some (cut_of width s).dropped ≡ ltb width (line_columns (words s))
 unfolding cut_of
 wide_is width s = all_wide width s (words s)
 
@@ -91,9 +92,9 @@ wide_is width s = all_wide width s (words s)
 
 -- The dropped part starts in the line, where the kept part ends, or only spaces stand between the two.
 pub record Between (s : List ℕ) (c : Cut) : Type 0 where
-  pub order : c.kept.end.0 ≤ c.dropped.0
-  pub inside : c.dropped.0 ≤ length s
-  pub spaces : (j : ℕ) → c.kept.end.0 ≤ j → j < c.dropped.0 → get_or s j 0 ≡ 0x20
+  pub order : c.kept.end.0 ≤ dropped_at s c.dropped
+  pub inside : dropped_at s c.dropped ≤ length s
+  pub spaces : (j : ℕ) → c.kept.end.0 ≤ j → j < dropped_at s c.dropped → get_or s j 0 ≡ 0x20
 
 bytes_part : (xs ys : List Chr) → bytes xs ≤ bytes (xs ++ ys)
 unfolding bytes

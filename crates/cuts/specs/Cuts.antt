@@ -1,5 +1,6 @@
 -- The cut of a line: "The printer drops whatever passes its last column and says nothing." Words as document 01 has them, so that a line of two or more words is too wide here exactly where the check says so.
-use Rattle.std.specs.Prelude.{ℕ, ◌+◌, ◌-◌, true, false, List, [], ◌∷◌, map, ltb, length}
+use Rattle.std.specs.Prelude.{ℕ, ◌+◌, ◌-◌, List, [], ◌∷◌, map, ltb, length, Option, Some, None}
+use Rattle.units.specs.declared.Offset.{Offset}
 use Rattle.logic.specs.Choice.{pick}
 use Rattle.chars.specs.Utf8.{decode}
 use Rattle.measure.specs.declared.Mode.TheVariants.{Text}
@@ -28,20 +29,24 @@ fit_columns left s x = width_from Text (piece left (decode (rest s (end_of x) (s
 abbrev pub kept_to : ℕ → Word → Kept
 kept_to c x = record { end = x.end; columns = record { 0 = c + width_of_word x } }
 
+-- Where the dropped part of a line starts: at the line's end where nothing is dropped.
+abbrev pub dropped_at : List ℕ → Option Offset → ℕ
+dropped_at s None = length s
+dropped_at s (Some place) = place.0
+
 -- The cut at a word that passes the last column. A piece takes one character at least, so it may be wider than what is left: then the cut stands before the word.
 unfoldable pub cut_in : ℕ → List ℕ → ℕ → Kept → Word → Cut
 cut_in width s c k x =
     pick (ltb width (c + fit_columns (width - c) s x))
-    (record { wide = true; kept = k; dropped = x.start })
+    (record { kept = k; dropped = Some x.start })
     (record {
-      wide = true;
       kept = record { end = record { 0 = fit_end (width - c) s x }; columns = record { 0 = c + fit_columns (width - c) s x } };
-      dropped = record { 0 = fit_end (width - c) s x };
+      dropped = Some (record { 0 = fit_end (width - c) s x });
     })
 
 -- The line s from some word on, with c columns before it, of which k is kept: cut at the first word that passes the last column.
 unfoldable pub cut_from : ℕ → List ℕ → ℕ → Kept → List Word → Cut
-cut_from width s c k [] = record { wide = false; kept = k; dropped = record { 0 = length s } }
+cut_from width s c k [] = record { kept = k; dropped = None }
 cut_from width s c k (x ∷ xs) = pick (ltb width (c + width_of_word x)) (cut_in width s c k x) (cut_from width s (c + columns_of x) (kept_to c x) xs)
 
 abbrev pub nothing : Kept

@@ -21,13 +21,12 @@ pub struct Kept {
     pub columns: Columns,
 }
 
-// A line cut at a width: whether it is too wide, its kept part, and where the dropped part starts, which
-// is the line's end where nothing is dropped.
+// A line cut at a width: its kept part, and where the dropped part starts, if anything is dropped, which is
+// so exactly of a line that is too wide.
 #[derive(Clone, Copy)]
 pub struct Cut {
-    pub wide: bool,
     pub kept: Kept,
-    pub dropped: Offset,
+    pub dropped: Option<Offset>,
 }
 
 // Before a line's first word.
@@ -37,6 +36,7 @@ const NOTHING: Kept = Kept {
 };
 
 // The word that starts at a place of a line that is UTF-8 from there on.
+#[tactic(auto, using(crate::proofs::Cutting::word_found, lines::proofs::Walk::meets_always))]
 fn word_at(line: &[u8], at: Offset) -> Word
     requires { (at.0 < length line.now) × Whole (drop at.0 line.now) }
     ensures { result ≡ word_at line.now at.0 }
@@ -52,42 +52,35 @@ fn word_at(line: &[u8], at: Offset) -> Word
     word
 }
 
-// The columns that are left in a line.
-fn room(width: usize, columns: usize) -> usize
-    ensures { result ≡ width - columns }
-{
-    if columns < width { width - columns } else { 0 }
-}
-
 // The cut at a word that passes the last column, the line having so many columns before it: after the
 // part of the word that still fits, or before the word where none does.
+#[tactic(auto, using(crate::proofs::Cutting::cut_before, crate::proofs::Cutting::cut_after))]
 fn cut_in(line: &[u8], columns: usize, kept: Kept, word: Word, width: usize) -> Cut
     requires { (columns ≤ 1000000) × (length line.now ≤ text_most) × (end_of word ≤ length line.now) }
     ensures { result ≡ cut_in width line.now columns kept word }
 {
     let start = word.start;
-    let left = room(width, columns);
+    let left = width.saturating_sub(columns);
     let piece = pieces::next_piece(line, start, word.end.0, NO_STOP, Columns(left));
     let reach = columns + piece.width.0;
     if width < reach {
         return Cut {
-            wide: true,
             kept,
-            dropped: start,
+            dropped: Some(start),
         };
     }
     let end = piece.end;
     Cut {
-        wide: true,
         kept: Kept {
             end,
             columns: Columns(reach),
         },
-        dropped: end,
+        dropped: Some(end),
     }
 }
 
-// A line cut at a width.
+// A line cut at a width. It is a walk: how far a step goes is the word's to say, so nothing counts it.
+#[tactic(auto, using(crate::proofs::Cutting::cutting))]
 pub fn cut_of(line: &[u8], width: usize) -> Cut
     requires { (length line.now ≤ text_most) × Whole line.now }
     ensures { result ≡ cut_of width line.now }
@@ -112,8 +105,7 @@ pub fn cut_of(line: &[u8], width: usize) -> Cut
         at = Offset(next);
     }
     Cut {
-        wide: false,
         kept,
-        dropped: Offset(line.len()),
+        dropped: None,
     }
 }

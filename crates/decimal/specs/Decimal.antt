@@ -1,5 +1,5 @@
 -- A number as people write it: a row of decimal digits.
-use Rattle.std.specs.Prelude.{ℕ, ◌+◌, ◌*◌, ◌-◌, min, Bool, true, false, ◌&&◌, List, [], ◌∷◌, leb, eqb, length}
+use Rattle.std.specs.Prelude.{ℕ, ◌+◌, ◌*◌, ◌-◌, min, Bool, true, false, ◌&&◌, List, [], ◌∷◌, leb, eqb, length, Option, Some, None}
 use Rattle.logic.specs.Choice.{pick}
 
 -- The number of the digits at the start of a row of bytes, from n on; 99999 where it is larger.
@@ -23,3 +23,7 @@ all_digits (b ∷ t) = pick (digit b) (all_digits t) false
 
 unfoldable pub is_number : List ℕ → Bool
 is_number s = pick (eqb (length s) 0) false (all_digits s)
+
+-- The number that a row of bytes is, where it is one.
+abbrev pub parse : List ℕ → Option ℕ
+parse s = pick (is_number s) (Some (decimal 0 s)) None

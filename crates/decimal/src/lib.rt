@@ -2,8 +2,8 @@
 // known here; one that is larger than any bound of document 01 stands for all that are.
 #![tactic(auto)]
 
-ghost use Rattle.std.specs.Prelude.{◌≡◌, ◌≤◌};
-ghost use Rattle.decimal.specs.Decimal.{digit, worth, with_digit, decimal, is_number};
+ghost use Rattle.std.specs.Prelude.{◌≡◌, ◌≤◌, IfSome};
+ghost use Rattle.decimal.specs.Decimal.{digit, worth, with_digit, decimal, is_number, parse};
 
 // A larger number counts as this one.
 pub const MOST: usize = 99999;
@@ -11,7 +11,7 @@ pub const MOST: usize = 99999;
 fn is_digit(b: u8) -> bool
     ensures { result ≡ digit b }
 {
-    (48 <= b) & (b <= 57)
+    b.is_ascii_digit()
 }
 
 // A number with one more digit.
@@ -21,26 +21,7 @@ fn with_digit(n: usize, d: usize) -> usize
     ensures value { result ≡ with_digit n d }
     ensures upper_bound { result ≤ 99999 }
 {
-    let sum = n * 10 + d;
-    if sum < MOST { sum } else { MOST }
-}
-
-// The number of the digits at the start of a row of bytes.
-pub fn number_of(s: &[u8]) -> usize
-    ensures value { result ≡ decimal 0 s.now }
-    ensures upper_bound { result ≤ 99999 }
-{
-    let mut n = 0;
-    let mut i = 0;
-    while i < s.len() {
-        let b = s[i];
-        if !is_digit(b) {
-            return n;
-        }
-        n = with_digit(n, value(b));
-        i += 1;
-    }
-    n
+    MOST.min(n * 10 + d)
 }
 
 // What a digit counts.
@@ -48,22 +29,43 @@ fn value(b: u8) -> usize
     ensures value { result ≡ worth b }
     ensures upper_bound { result ≤ 255 }
 {
-    if b < 48 { 0 } else { b as usize - 48 }
+    usize::from(b.saturating_sub(b'0'))
+}
+
+// The number of the digits at the start of a row of bytes.
+#[tactic(auto, using(crate::proofs::Digits::reading))]
+pub fn number_of(s: &[u8]) -> usize
+    ensures value { result ≡ decimal 0 s.now }
+    ensures upper_bound { result ≤ 99999 }
+{
+    let mut n = 0;
+    for &b in s {
+        if !is_digit(b) {
+            break;
+        }
+        n = with_digit(n, value(b));
+    }
+    n
 }
 
 // Whether a row of bytes is a number: digits alone, and one at least.
 pub fn is_number(s: &[u8]) -> bool
     ensures { result ≡ is_number s.now }
 {
-    if s.len() == 0 {
+    if s.is_empty() {
         return false;
     }
-    let mut i = 0;
-    while i < s.len() {
-        if !is_digit(s[i]) {
-            return false;
-        }
-        i += 1;
+    s.iter().all(|b| is_digit(*b))
+}
+
+// The number that a row of bytes is; none where it is no number.
+pub fn parse(s: &[u8]) -> Option<usize>
+    ensures value { result ≡ parse s.now }
+    ensures upper_bound { IfSome result (λ n. n ≤ 99999) }
+{
+    if is_number(s) {
+        Some(number_of(s))
+    } else {
+        None
     }
-    true
 }

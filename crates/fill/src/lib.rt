@@ -7,21 +7,11 @@ ghost use Rattle.std.specs.Prelude.{◌≡◌, ◌≤◌, length};
 ghost use Rattle.units.specs.Limits.{text_most};
 ghost use Rattle.chars.specs.Utf8.{Whole};
 ghost use Rattle.lines.specs.Breaks.{breaks, text_breaks, broken, filled};
-ghost use Rattle.fill.specs.Fill.{fill_of, leaves, answer_of};
+ghost use Rattle.fill.specs.Fill.{fill_of, leaves};
 
-use chars::Checked;
+use limits::TextRefusal;
 use lines::NEWLINE;
-use units::{Answer, Offset, TEXT_MOST, WIDTH_MOST};
-
-// How many bytes were changed; or why none were: the text is too long, with its length; not UTF-8, with
-// its first fault; or the line too wide.
-#[derive(Clone, Copy)]
-pub enum Filled {
-    Changed(usize),
-    TooLong(Offset),
-    NotUtf8(Offset),
-    TooWide,
-}
+use units::{Offset, TEXT_MOST};
 
 // Fills the body of one input line, and counts the bytes changed.
 fn fill_line(line: &mut [u8], width: usize) -> usize
@@ -68,32 +58,11 @@ fn fill_lines(text: &mut [u8], width: usize) -> usize
 
 // Fills a text at a width and answers how many bytes that changed; or refusal 1, 2 or 3, the text as it
 // was.
-pub fn fill_inplace(text: &mut [u8], width: u32) -> Filled
+pub fn fill_inplace(text: &mut [u8], width: u32) -> Result<usize, TextRefusal>
     ensures value { result ≡ fill_of width text.old }
     ensures text_after { text.new ≡ leaves result width text.old }
 {
-    if TEXT_MOST < text.len() {
-        return Filled::TooLong(Offset(text.len()));
-    }
-    match chars::first_fault(text) {
-        Checked::Whole => {
-            if WIDTH_MOST < width {
-                return Filled::TooWide;
-            }
-            Filled::Changed(fill_lines(text, width as usize))
-        }
-        Checked::Fault(at) => Filled::NotUtf8(at),
-    }
-}
-
-// The numbers of document 01 for what the fill answers.
-pub fn answer_of(f: Filled) -> Answer
-    ensures { result ≡ answer_of f }
-{
-    match f {
-        Filled::Changed(n) => units::done(n),
-        Filled::TooLong(length) => units::refused(1, length.0),
-        Filled::NotUtf8(at) => units::refused(2, at.0),
-        Filled::TooWide => units::refused(3, 0),
-    }
+    limits::admit(text, TEXT_MOST)?;
+    let columns = limits::columns_of(width)?;
+    Ok(fill_lines(text, columns.0))
 }

@@ -6,10 +6,12 @@ use Prim.Native.Nat.{ℕ, suc, ◌+◌, ◌*◌, ◌≤◌, ◌<◌, max}
 use native.Mathlib.Numerals.{add-one}
 use native.Mathlib.Omega.{arith}
 use lib.Dec.{ltb}
-use lib.ListN.{length, get_or, set, drop, drop_of_length-le}
+use lib.ListN.{length, get_or, drop, drop_of_length-le}
 use lib.Seq.{sets}
-use Rattle.logic.specs.Flat.{flat, alone}
-use Rattle.logic.proofs.Stored.{Stored, stored_start, stored_step, stored_end, flat_alone}
+use Rattle.logic.specs.Flat.{flat}
+use Rattle.logic.proofs.Stored.{Stored, stored_start, stored_step, stored_end}
+use Rattle.wire.specs.Cells.{CellLaws}
+use Rattle.wire.proofs.Cells.{stored_flat, places_same}
 use Rattle.fragments.specs.Fragments.{Fragment, fragments}
 use Rattle.fragments.specs.Lists.{width_of}
 use Rattle.fragments.proofs.Laws.{fragments_length, fragments_at}
@@ -56,19 +58,13 @@ unfolding line_ends
 ends_few widths [] = omega arith
 ends_few widths (f ∷ r) = omega (arith, ends_from_few 1 (flags (starts widths) (step widths) (begun f) r), flags_length (starts widths) (step widths) (begun f) r)
 
-pub ends_room : {room : ℕ} (widths ws ss ps : List ℕ) → 0 < length ws → length ws ≤ room → length (flat alone (line_ends widths (fragments ws ss ps))) ≤ room
-ends_room widths ws ss ps p l = rw (flat_alone (line_ends widths (fragments ws ss ps))) (omega (arith, ends_few widths (fragments ws ss ps), fragments_length ws ss ps))
-
 pub ends_none : (widths ws ss ps : List ℕ) → length ws ≡ 0 → line_ends widths (fragments ws ss ps) ≡ 0 ∷ []
 unfolding line_ends fragments
 ends_none widths [] ss ps e = refl
 ends_none widths (w ∷ ws) ss ps e = absurd (omega arith)
 
-pub none_stored : {l' : List ℕ} (l widths ws ss ps : List ℕ) → length ws ≡ 0 → l' ≡ set l 0 0 → l' ≡ sets l 0 (line_ends widths (fragments ws ss ps))
-none_stored l widths ws ss ps e q = rw (ends_none widths ws ss ps e) q
-
 -- Fragment i is next, line `line` has so many columns already and so much width, and its end goes to `place` of `out`, which has come of `out₀`.
-pub record Laying (one : ℕ → List ℕ) (widths ws ss ps : List ℕ) (place i line columns width : ℕ) (out out₀ : List ℕ) : Type 0 where
+pub record Laying {A : Type 0} (one : ℕ → List A) (widths ws ss ps : List ℕ) (place i line columns width : ℕ) (out out₀ : List A) : Type 0 where
   pub stored : Stored one (line_ends widths (fragments ws ss ps)) (rest widths (fragments ws ss ps) i line columns) place out out₀
   pub wide : width ≡ width_of widths line
   pub below : line < i
@@ -76,8 +72,8 @@ pub record Laying (one : ℕ → List ℕ) (widths ws ss ps : List ℕ) (place i
   pub small : columns ≤ 131070 * i
   pub lines : line + length (rest widths (fragments ws ss ps) i line columns) ≡ length (line_ends widths (fragments ws ss ps))
 
-module _ (one : ℕ → List ℕ) (widths ws ss ps : List ℕ) where
-  pub laying_start : {w s width : ℕ} (out : List ℕ) → 0 < length ws → length (flat one (line_ends widths (fragments ws ss ps))) ≤ length out
+module _ {A : Type 0} (one : ℕ → List A) (widths ws ss ps : List ℕ) where
+  pub laying_start : {w s width : ℕ} (out : List A) → 0 < length ws → length (flat one (line_ends widths (fragments ws ss ps))) ≤ length out
       → (w ≡ get_or ws 0 0) × (w ≤ 65535) → (s ≡ get_or ss 0 0) × (s ≤ 65535) → width ≡ width_of widths 0
       → Laying one widths ws ss ps 0 1 0 (w + s) width out out
   laying_start {w} {s} {width} out p h ew es t = rw (ew.0, es.0) (record {
@@ -92,7 +88,7 @@ module _ (one : ℕ → List ℕ) (widths ws ss ps : List ℕ) where
       same : rest widths (fragments ws ss ps) 1 0 (get_or ws 0 0 + get_or ss 0 0) ≡ line_ends widths (fragments ws ss ps)
       same = rest_start widths ws ss ps p
 
-  module _ {place i line columns width w s p : ℕ} {t : Bool} {out out₀ : List ℕ} (k : Laying one widths ws ss ps place i line columns width out out₀)
+  module _ {place i line columns width w s p : ℕ} {t : Bool} {out out₀ : List A} (k : Laying one widths ws ss ps place i line columns width out out₀)
       (h : i < length ws) (ew : w ≡ get_or ws i 0) (es : s ≡ get_or ss i 0) (ep : p ≡ get_or ps i 0) (et : t ≡ ltb width (columns + w + p)) where
     f : Fragment
     f = record { word = get_or ws i 0; white = get_or ss i 0; penalty = get_or ps i 0 }
@@ -101,7 +97,7 @@ module _ (one : ℕ → List ℕ) (widths ws ss ps : List ℕ) where
     unfolding f
     tested b q = rw (← ew, ← ep, ← k.wide) (sym et ∙ q)
 
-    pub laying_break : {width' : ℕ} {out' : List ℕ} → w ≤ 65535 → s ≤ 65535 → t ≡ true → out' ≡ sets out place (one i) → width' ≡ width_of widths (line + 1)
+    pub laying_break : {width' : ℕ} {out' : List A} → w ≤ 65535 → s ≤ 65535 → t ≡ true → out' ≡ sets out place (one i) → width' ≡ width_of widths (line + 1)
         → Laying one widths ws ss ps (place + length (one i)) (i + 1) (line + 1) (w + s) width' out' out₀
     unfolding f
     laying_break lw ls q e v = record {
@@ -131,17 +127,52 @@ module _ (one : ℕ → List ℕ) (widths ws ss ps : List ℕ) where
         go = rest_join widths (fragments ws ss ps) i line columns f (fragments_at ws ss ps i h) (tested false q)
 
   -- the last line ends at the last fragment
-  module _ {place i line columns width : ℕ} {out out₀ : List ℕ} (k : Laying one widths ws ss ps place i line columns width out out₀) (h : length ws ≤ i) where
+  module _ {place i line columns width : ℕ} {out out₀ : List A} (k : Laying one widths ws ss ps place i line columns width out out₀) (h : length ws ≤ i) where
     last : rest widths (fragments ws ss ps) i line columns ≡ i ∷ []
     last = rest_end widths (fragments ws ss ps) i line columns (omega (arith, fragments_length ws ss ps))
 
-    pub laying_end : {out' : List ℕ} → out' ≡ sets out place (one i) → out' ≡ sets out₀ 0 (flat one (line_ends widths (fragments ws ss ps)))
+    pub laying_end : {out' : List A} → out' ≡ sets out place (one i) → out' ≡ sets out₀ 0 (flat one (line_ends widths (fragments ws ss ps)))
     laying_end e = stored_end (stored_step one (rw last at k.stored) e)
 
     pub laying_lines : line + 1 ≡ length (line_ends widths (fragments ws ss ps))
     laying_lines = omega (arith, k.lines, ap length last)
 
--- where the numbers are elements
-pub laying_end_alone : {widths ws ss ps : List ℕ} {place i line columns width : ℕ} {out out₀ out' : List ℕ} → Laying alone widths ws ss ps place i line columns width out out₀
-    → length ws ≤ i → out' ≡ sets out place (alone i) → out' ≡ sets out₀ 0 (line_ends widths (fragments ws ss ps))
-laying_end_alone {widths} {ws} {ss} {ps} k h e = rw (flat_alone (line_ends widths (fragments ws ss ps))) at (laying_end alone widths ws ss ps k h e)
+-- ---- where the ends lie in a list of cells
+
+module _ {A : Type 0} {numbers : List A → List ℕ} {places : List A → ℕ} {at : ℕ → ℕ} {stored : List ℕ → List A} {size : ℕ} (laws : CellLaws numbers places at stored size) (widths ws ss ps : List ℕ) where
+  ends : List ℕ
+  ends = line_ends widths (fragments ws ss ps)
+
+  first_place : at 0 ≡ 0
+  first_place = omega (arith, laws.found 0)
+
+  ends_room : (out : List A) → 0 < length ws → length ws ≤ places out → length (flat (λ v. stored (v ∷ [])) ends) ≤ length out
+  unfolding ends
+  ends_room out p l =
+      rw (stored_flat laws (line_ends widths (fragments ws ss ps)))
+      (omega (arith, laws.sized (line_ends widths (fragments ws ss ps)), laws.room (length (line_ends widths (fragments ws ss ps))) out (omega (arith, ends_few widths (fragments ws ss ps), fragments_length ws ss ps))))
+
+  pub cells_start : {w s width : ℕ} (out : List A) → 0 < length ws → length ws ≤ places out → (w ≡ get_or ws 0 0) × (w ≤ 65535) → (s ≡ get_or ss 0 0) × (s ≤ 65535) → width ≡ width_of widths 0
+      → Laying (λ v. stored (v ∷ [])) widths ws ss ps (at 0) 1 0 (w + s) width out out
+  unfolding ends
+  cells_start out p l ew es t = rw first_place (laying_start (λ v. stored (v ∷ [])) widths ws ss ps out p (ends_room out p l) ew es t)
+
+  pub cells_break : {i line columns width w s p width' : ℕ} {t : Bool} {out out₀ out' : List A}
+      → Laying (λ v. stored (v ∷ [])) widths ws ss ps (at line) i line columns width out out₀ → i < length ws → w ≡ get_or ws i 0 → s ≡ get_or ss i 0 → p ≡ get_or ps i 0 → t ≡ ltb width (columns + w + p)
+      → w ≤ 65535 → s ≤ 65535 → t ≡ true → out' ≡ sets out (at line) (stored (i ∷ [])) → width' ≡ width_of widths (line + 1)
+      → Laying (λ v. stored (v ∷ [])) widths ws ss ps (at (line + 1)) (i + 1) (line + 1) (w + s) width' out' out₀
+  cells_break {i} {line} k h ew es ep et lw ls q e v =
+      let next : at (line + 1) ≡ at line + length (stored (i ∷ [])) = omega (arith, laws.found line, laws.found (line + 1), laws.sized (i ∷ [])) in
+      rw next (laying_break (λ v. stored (v ∷ [])) widths ws ss ps k h ew es ep et lw ls q e v)
+
+  -- there is a place for the end of the line
+  pub cells_place : {i line columns width : ℕ} {out out₀ : List A} → Laying (λ v. stored (v ∷ [])) widths ws ss ps (at line) i line columns width out out₀ → length ws ≤ places out₀ → line < places out
+  cells_place {line = line} {out = out} {out₀ = out₀} k l = omega (arith, places_same laws (line + 1) out₀ out k.stored.long (omega (arith, k.below, k.inside)))
+
+  pub cells_end : {i line columns width : ℕ} {out out₀ out' : List A} → Laying (λ v. stored (v ∷ [])) widths ws ss ps (at line) i line columns width out out₀ → length ws ≤ i
+      → out' ≡ sets out (at line) (stored (i ∷ [])) → out' ≡ sets out₀ 0 (stored (line_ends widths (fragments ws ss ps)))
+  cells_end k h e = rw (stored_flat laws (line_ends widths (fragments ws ss ps))) at (laying_end (λ v. stored (v ∷ [])) widths ws ss ps k h e)
+
+  -- the one line of no fragments
+  pub none_stored : {n : ℕ} {out' : List A} (out : List A) → n ≡ length ws → n ≡ 0 → out' ≡ sets out (at 0) (stored (0 ∷ [])) → out' ≡ sets out 0 (stored (line_ends widths (fragments ws ss ps)))
+  none_stored out l z e = rw (ends_none widths ws ss ps (omega arith)) (rw first_place at e)

@@ -1,4 +1,5 @@
 -- The lists of a layout at an index: a step of the loop that looks for a number above a bound, the width of a line, and the fragment at an index.
+use Rattle.std.proofs.Common.{Option, Some, None, Result, Ok}
 use mathlib.Core.Path.{◌≡◌, refl, sym, ap, ◌∙◌}
 use mathlib.Core.List.{List, [], ◌∷◌}
 use Prim.Native.Nat.{ℕ, zero, suc, ◌+◌, ◌-◌, ◌≤◌, ◌<◌, min}
@@ -7,16 +8,14 @@ use native.Mathlib.Omega.{arith}
 use lib.Dec.{leb, ltb, eqb}
 use lib.ListN.{length, get_or, drop, get_or-eq_default}
 use lib.Seq.{get_or-drop}
-use borrow.Author.Tests.{le-leb, lt-leb, le-ltb, eq-eqb, eqb-true, ltb-false}
+use borrow.Author.Tests.{le-leb, lt-leb, lt-ltb, le-ltb, eq-eqb, eqb-true, ltb-false}
 use Rattle.units.specs.declared.Answer.{Answer}
 use Rattle.units.specs.Limits.{fragments_most}
 use Rattle.logic.proofs.Choice.{both}
 use Rattle.logic.proofs.Count.{Counting, counting_start, counting_step, counting_stop, counting_end}
-use Rattle.fragments.specs.declared.Laid.{Laid}
-use Rattle.fragments.specs.declared.Tested.{Tested}
-use Rattle.fragments.specs.declared.Tested.TheVariants.{Good}
+use Rattle.fragments.specs.declared.ListRefusal.{ListRefusal}
 use Rattle.fragments.specs.Fragments.{fragments}
-use Rattle.fragments.specs.Lists.{width_of, first_above, tested_of}
+use Rattle.fragments.specs.Lists.{found, width_of, first_above, width_tested, tested_of}
 use Rattle.fragments.specs.Answers.{answer_of}
 
 -- The numbers before i are at most `most`.
@@ -29,13 +28,17 @@ below_start most l = record { passed = counting_start (λ x. leb x most) l 0 }
 pub below_step : {most i v : ℕ} {l : List ℕ} → Below most l i → i < length l → v ≡ get_or l i 0 → v ≤ most → Below most l (i + 1)
 below_step {most} {i} {v} {l} b h e m = record { passed = counting_step b.passed h refl (le-leb (get_or l i 0) most (omega arith)) }
 
-pub below_stop : {most i v : ℕ} {l : List ℕ} → Below most l i → i < length l → v ≡ get_or l i 0 → most < v → i ≡ first_above most l
+pub below_stop : {most i v : ℕ} {l : List ℕ} → Below most l i → i < length l → v ≡ get_or l i 0 → most < v → Some i ≡ found (first_above most l) (length l)
 unfolding first_above
-below_stop {most} {i} {v} {l} b h e m = counting_stop b.passed h refl (lt-leb (get_or l i 0) most (omega arith)) ∙ zero-add _
+below_stop {most} {i} {v} {l} b h e m =
+    let q : i ≡ first_above most l = counting_stop b.passed h refl (lt-leb (get_or l i 0) most (omega arith)) ∙ zero-add _ in
+    rw (← q, lt-ltb i (length l) h)
 
-pub below_end : {most i : ℕ} {l : List ℕ} → Below most l i → length l ≤ i → i ≡ first_above most l
+pub below_end : {most i : ℕ} {l : List ℕ} → Below most l i → length l ≤ i → None ≡ found (first_above most l) (length l)
 unfolding first_above
-below_end b h = counting_end b.passed h ∙ zero-add _
+below_end {most} {i} {l} b h =
+    let q : i ≡ first_above most l = counting_end b.passed h ∙ zero-add _ in
+    rw (← q, le-ltb i (length l) h)
 
 pub ruleset looking = (below_start, below_step, below_stop, below_end)
 
@@ -54,9 +57,6 @@ module _ {r n : ℕ} (ws : List ℕ) (k : ℕ) (l : n ≡ length ws) where
   width_last h q = let e : n - 1 ≡ min k (length ws - 1) = omega arith in q ∙ ap (λ (i : ℕ). get_or ws i 0) e
 
 pub ruleset widths = (width_none, width_in, width_last)
-
-pub answer_of_lem : {r : Answer} {l l' : Laid} → l ≡ l' → r ≡ answer_of l' → r ≡ answer_of l
-answer_of_lem p q = rw p q
 
 -- There are as many fragments as word widths, and the fragment at an index has the numbers there.
 pub fragments_length : (ws ss ps : List ℕ) → length (fragments ws ss ps) ≡ length ws
@@ -80,21 +80,30 @@ pub record Sound (words whites penalties : ℕ) : Type 0 where
   pub penalties_same : penalties ≡ words
   pub few : words ≤ fragments_most
 
-pub tested_good : {t : Tested} (words whites penalties wide widths : ℕ) → t ≡ tested_of words whites penalties wide widths → t ≡ Good → Sound words whites penalties × (widths ≤ wide)
+-- An index past the end is none.
+pub found_none : (i n : ℕ) → n ≤ i → found i n ≡ None
+found_none i n l = rw (le-ltb i n l)
+
+pub none_found : (i n : ℕ) → found i n ≡ None → n ≤ i
+none_found i n e = both (ltb i n) (λ t. let q : Some i ≡ None = rw t at e in let z : ◌≡◌ {A = ℕ} 0 1 = cc in absurd (omega arith)) (λ t. ltb-false i n t)
+
+none_wide : (wide : Option ℕ) → width_tested wide ≡ Ok tt → wide ≡ None
+none_wide (Some at) e = let z : ◌≡◌ {A = ℕ} 0 1 = cc in absurd (omega arith)
+none_wide None e = refl
+
+pub tested_good : (words whites penalties : ℕ) (wide : Option ℕ) → tested_of words whites penalties wide ≡ Ok tt → Sound words whites penalties × (wide ≡ None)
 unfolding tested_of
-tested_good words whites penalties wide widths e g =
+tested_good words whites penalties wide e =
     both (eqb whites words)
     (λ a. both (eqb penalties words)
     (λ b. both (ltb fragments_most words)
     (λ c. absurd (let q = rw (a, b, c) at e in let z : ◌≡◌ {A = ℕ} 0 1 = cc in omega arith))
-    (λ c. both (ltb wide widths)
-    (λ d. absurd (let q = rw (a, b, c, d) at e in let z : ◌≡◌ {A = ℕ} 0 1 = cc in omega arith))
-    (λ d. (record { whites_same = eqb-true whites words a; penalties_same = eqb-true penalties words b; few = ltb-false fragments_most words c }, ltb-false wide widths d))))
+    (λ c. (record { whites_same = eqb-true whites words a; penalties_same = eqb-true penalties words b; few = ltb-false fragments_most words c }, none_wide wide (rw (a, b, c) at e))))
     (λ b. absurd (let q = rw (a, b) at e in let z : ◌≡◌ {A = ℕ} 0 1 = cc in omega arith)))
     (λ a. absurd (let q = rw a at e in let z : ◌≡◌ {A = ℕ} 0 1 = cc in omega arith))
 
 -- And such lists are found good.
-pub good_tested : (words whites penalties wide widths : ℕ) → Sound words whites penalties → widths ≤ wide → tested_of words whites penalties wide widths ≡ Good
+pub good_tested : (words whites penalties : ℕ) (wide : Option ℕ) → Sound words whites penalties → wide ≡ None → tested_of words whites penalties wide ≡ Ok tt
 unfolding tested_of
-good_tested words whites penalties wide widths k l =
-    rw (eq-eqb whites words k.whites_same, eq-eqb penalties words k.penalties_same, le-ltb fragments_most words k.few, le-ltb wide widths l)
+good_tested words whites penalties wide k e =
+    rw (eq-eqb whites words k.whites_same, eq-eqb penalties words k.penalties_same, le-ltb fragments_most words k.few, e)

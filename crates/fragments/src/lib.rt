@@ -3,18 +3,28 @@
 // Nothing here lays fragments out.
 #![tactic(auto)]
 
-ghost use Rattle.std.specs.Prelude.{◌≡◌, ◌≤◌, ◌<◌, max, length, get_or, set};
-ghost use Rattle.fragments.specs.Lists.{first_above, width_of, tested_of};
-ghost use Rattle.fragments.specs.Answers.{answer_of};
+ghost use Rattle.std.specs.Prelude.{◌≡◌, ◌≤◌, ◌<◌, max, length, [], ◌∷◌, get_or};
+ghost use Rattle.std.proofs.lemmas.List.Edits.{sets};
+ghost use Rattle.fragments.specs.Lists.{found, first_above, width_of, tested_of, list_test};
+ghost use Rattle.fragments.specs.Answers.{refusal_of, answer_of};
 
-use units::{Answer, FRAGMENTS_MOST, FragmentIndex};
+use units::{Answer, FRAGMENTS_MOST, FragmentIndex, Refusal, WIDTH_MOST};
+use wire::Cell;
 
-// How many lines were laid out; or why none were: lists of unequal length; more than 4,096 fragments; a
-// width above 255, with its index; a penalty above 1,000,000, with its index; too little room, with the
-// places needed; a cost above 2^53.
-#[derive(Clone, Copy)]
-pub enum Laid {
-    Lines(usize),
+// Fragments, by three lists of numbers: the widths of the words, of the whitespace after each, and of what
+// stands there where a line ends.
+#[derive_where(Clone, Copy)]
+pub struct FragmentLists<'a, C> {
+    pub words: &'a [C],
+    pub whites: &'a [C],
+    pub penalties: &'a [C],
+}
+
+// Why lists are not laid out: unequal lengths; more than 4,096 fragments; a width above 255, with its
+// index; a penalty above 1,000,000, with its index; too little room, with the places needed; a cost above
+// 2^53.
+#[derive(Clone, Copy, Debug, PartialEq, Eq)]
+pub enum ListRefusal {
     Unequal,
     TooMany,
     TooWide(usize),
@@ -23,43 +33,49 @@ pub enum Laid {
     TooDear,
 }
 
-// What the lists of a layout are found to be: good; or of unequal length; or of too many fragments; or
-// with a width above 255, by its index.
-#[derive(Clone, Copy)]
-pub enum Tested {
-    Good,
-    Unequal,
-    TooMany,
-    TooWide(usize),
+impl From<ListRefusal> for Answer {
+    ghost from_gives = { λ why answer. answer ≡ refusal_of why };
+
+    fn from(why: ListRefusal) -> Answer {
+        match why {
+            ListRefusal::Unequal => Refusal::Unequal.at(0),
+            ListRefusal::TooMany => Refusal::TooMany.at(0),
+            ListRefusal::TooWide(at) => Refusal::TooWide.at(at),
+            ListRefusal::BigPenalty(at) => Refusal::BigPenalty.at(at),
+            ListRefusal::NoRoom(needed) => Refusal::NoRoom.at(needed),
+            ListRefusal::TooDear => Refusal::TooDear.at(0),
+        }
+    }
 }
 
 // The number at an index of a list.
-pub fn number_at(list: &[u16], i: usize) -> usize
-    requires { i < length list.now }
-    ensures { (result ≡ get_or list.now i 0) × (result ≤ 65535) }
+#[tactic(auto, using(std::proofs::lemmas::Grind::get_or_default_zero))]
+pub fn number_at<C: Cell<u16>>(list: &[C], i: usize) -> usize
+    requires { i < length (C.numbers list.now) }
+    ensures { (result ≡ get_or (C.numbers list.now) i 0) × (result ≤ 65535) }
 {
-    list[i] as usize
+    usize::from(C::get(list, i))
 }
 
-// The index of the first number above a bound, or the length of the list.
-pub fn first_above(list: &[u16], most: usize) -> usize
-    ensures { result ≡ first_above most list.now }
+// The index of the first number above a bound, if there is one.
+#[tactic(auto, using(crate::proofs::Laws::looking))]
+pub fn first_above<C: Cell<u16>>(list: &[C], most: usize) -> Option<usize>
+    ensures { result ≡ found (first_above most (C.numbers list.now)) (length (C.numbers list.now)) }
 {
-    let mut i = 0;
-    while i < list.len() {
+    for i in 0..C::count(list) {
         if most < number_at(list, i) {
-            return i;
+            return Some(i);
         }
-        i += 1;
     }
-    i
+    None
 }
 
 // The width of a line by its number: beyond the list the last, and 0 of an empty list.
-pub fn width_of(widths: &[u16], line: usize) -> usize
-    ensures { (result ≡ width_of widths.now line) × (result ≤ 65535) }
+#[tactic(auto, using(crate::proofs::Laws::widths))]
+pub fn width_of<C: Cell<u16>>(widths: &[C], line: usize) -> usize
+    ensures { (result ≡ width_of (C.numbers widths.now) line) × (result ≤ 65535) }
 {
-    let n = widths.len();
+    let n = C::count(widths);
     if n == 0 {
         return 0;
     }
@@ -70,29 +86,28 @@ pub fn width_of(widths: &[u16], line: usize) -> usize
     }
 }
 
-// What lists of these lengths are, the first width above 255 being at `wide` of `widths`.
+// Whether lists of these lengths can be laid out, the first width above 255 being at `wide`.
+#[tactic(auto, using(logic::proofs::Choice::picks), unfolding(crate::specs::Lists::tested_of))]
 pub fn test_lists(
     words: usize,
     whites: usize,
     penalties: usize,
-    wide: usize,
-    widths: usize,
-) -> Tested
-    ensures { result ≡ tested_of words whites penalties wide widths }
+    wide: Option<usize>,
+) -> Result<(), ListRefusal>
+    ensures { result ≡ tested_of words whites penalties wide }
 {
     if whites != words {
-        return Tested::Unequal;
+        return Err(ListRefusal::Unequal);
     }
     if penalties != words {
-        return Tested::Unequal;
+        return Err(ListRefusal::Unequal);
     }
     if FRAGMENTS_MOST < words {
-        return Tested::TooMany;
+        return Err(ListRefusal::TooMany);
     }
-    if wide < widths {
-        Tested::TooWide(wide)
-    } else {
-        Tested::Good
+    match wide {
+        Some(at) => Err(ListRefusal::TooWide(at)),
+        None => Ok(()),
     }
 }
 
@@ -100,28 +115,39 @@ pub fn test_lists(
 pub fn places_needed(n: usize) -> usize
     ensures { result ≡ max 1 n }
 {
-    if n == 0 { 1 } else { n }
+    n.max(1)
 }
 
 // Stores the end of a line.
-pub fn put_end(ends: &mut [u16], line: usize, end: FragmentIndex)
-    requires { (line < length ends.old) × (end.0 ≤ 4096) }
-    ensures { ends.new ≡ set ends.old line end.0 }
+pub fn put_end<C: Cell<u16>>(ends: &mut [C], line: usize, end: FragmentIndex)
+    requires { (line < C.places ends.old) × (end.0 ≤ 4096) }
+    ensures { ends.new ≡ sets ends.old (C.at line) (C.stored (end.0 ∷ [])) }
 {
-    ends[line] = end.0 as u16;
+    wire::put(ends, line, end.0 as u16);
 }
 
-// The numbers of document 01 for what a layout answers.
-pub fn answer_of(l: Laid) -> Answer
-    ensures { result ≡ answer_of l }
+impl<C: Cell<u16>> FragmentLists<'_, C> {
+    // Whether these fragments can be laid out in lines of these widths.
+    pub fn test(&self, widths: &[C]) -> Result<(), ListRefusal>
+        ensures { result ≡ list_test (C.numbers self.now.words.now) (C.numbers self.now.whites.now) (C.numbers self.now.penalties.now) (C.numbers widths.now) }
+    {
+        let wide = first_above(widths, WIDTH_MOST as usize);
+        test_lists(
+            C::count(self.words),
+            C::count(self.whites),
+            C::count(self.penalties),
+            wide,
+        )
+    }
+}
+
+// The numbers of document 01 for what a layout answers: how many lines there are, or why there are none.
+#[tactic(auto, unfolding(crate::specs::Answers::answer_of))]
+pub fn answer_of(laid: Result<usize, ListRefusal>) -> Answer
+    ensures { result ≡ answer_of laid }
 {
-    match l {
-        Laid::Lines(n) => units::done(n),
-        Laid::Unequal => units::refused(5, 0),
-        Laid::TooMany => units::refused(4, 0),
-        Laid::TooWide(at) => units::refused(3, at),
-        Laid::BigPenalty(at) => units::refused(6, at),
-        Laid::NoRoom(needed) => units::refused(7, needed),
-        Laid::TooDear => units::refused(8, 0),
+    match laid {
+        Ok(lines) => units::done(lines),
+        Err(why) => Answer::from(why),
     }
 }

@@ -14,38 +14,42 @@ use Rattle.units.specs.Answers.{success, refusal}
 use Rattle.logic.specs.Choice.{pick}
 use Rattle.chars.specs.Utf8.{first_fault, Whole}
 use Rattle.lines.specs.Breaks.{filled}
-use Rattle.judge.specs.declared.Judged.{Judged}
-use Rattle.judge.specs.declared.Judged.TheVariants.{Accepted, TooLong, NotUtf8, TooWide, Lengths, BadChange, WideLine, ManyLines}
 use Rattle.judge.specs.Judge.{changes_of, judge_of, answer_of}
 use Rattle.judge.specs.Demand.{Limits, AcceptedText, BadAt, WideLineAt, ManyLinesAt}
 use Rattle.judge.proofs.Accepting.{accepts}
 use Rattle.judge.proofs.Filled.{filled_accepted}
 use Rattle.judge.proofs.Refusing.{says_bad, says_wide, says_many, bad_said, wide_said, many_said}
+use Rattle.std.specs.Prelude.{Err, Ok, Result, ⊤}
+use Rattle.judge.specs.declared.Rejection.{Rejection}
+use Rattle.judge.specs.declared.Rejection.TheVariants.{BadChange, Lengths, ManyLines, Text, WideLine}
+use Rattle.limits.specs.declared.TextRefusal.TheVariants.{NoRoom, NotUtf8, TooLong, TooWide}
 
 -- Each answer has numbers of its own, so that what is said of the numbers is said of the answer.
-judged_of : Answer → Judged
+judged_of : Answer → Result ⊤ Rejection
 judged_of a =
-    pick (eqb a.number 0) Accepted
-    (pick (eqb a.number 1) (TooLong (record { 0 = a.place }))
-    (pick (eqb a.number 2) (NotUtf8 (record { 0 = a.place }))
-    (pick (eqb a.number 3) TooWide
-    (pick (eqb a.number 9) Lengths
-    (pick (eqb a.number 10) (BadChange (record { 0 = a.place }))
-    (pick (eqb a.number 11) (WideLine (record { 0 = a.place }))
-    (ManyLines (record { 0 = a.place }))))))))
+    pick (eqb a.number 0) (Ok tt)
+    (pick (eqb a.number 1) (Err (Text (TooLong (record { 0 = a.place }))))
+    (pick (eqb a.number 2) (Err (Text (NotUtf8 (record { 0 = a.place }))))
+    (pick (eqb a.number 3) (Err (Text TooWide))
+    (pick (eqb a.number 7) (Err (Text (NoRoom a.place)))
+    (pick (eqb a.number 9) (Err Lengths)
+    (pick (eqb a.number 10) (Err (BadChange (record { 0 = a.place })))
+    (pick (eqb a.number 11) (Err (WideLine (record { 0 = a.place })))
+    (Err (ManyLines (record { 0 = a.place }))))))))))
 
-told_back : (j : Judged) → judged_of (answer_of j) ≡ j
+told_back : (j : Result ⊤ Rejection) → judged_of (answer_of j) ≡ j
 unfolding judged_of answer_of
-told_back Accepted = refl
-told_back (TooLong l) = refl
-told_back (NotUtf8 o) = refl
-told_back TooWide = refl
-told_back Lengths = refl
-told_back (BadChange o) = refl
-told_back (WideLine o) = refl
-told_back (ManyLines o) = refl
+told_back (Ok tt) = refl
+told_back (Err (Text (TooLong l))) = refl
+told_back (Err (Text (NotUtf8 o))) = refl
+told_back (Err (Text TooWide)) = refl
+told_back (Err (Text (NoRoom n))) = refl
+told_back (Err Lengths) = refl
+told_back (Err (BadChange o)) = refl
+told_back (Err (WideLine o)) = refl
+told_back (Err (ManyLines o)) = refl
 
-told : (j k : Judged) → answer_of j ≡ answer_of k → j ≡ k
+told : (j k : Result ⊤ Rejection) → answer_of j ≡ answer_of k → j ≡ k
 told j k e = sym (told_back j) ∙ ap judged_of e ∙ told_back k
 
 -- The check accepts exactly if the text before and the width are within the limits and: lengths agree; each changed byte was the last space before a further word of its input line and is now a newline; each
@@ -54,7 +58,7 @@ pub check_accepts : (width : ℕ) (before after : List ℕ) → (answer_of (judg
 unfolding answer_of
 check_accepts width before after =
     let a = accepts width before after in
-    (λ e. a.0 (told (judge_of width before after) Accepted e), λ h. ap answer_of (a.1 h))
+    (λ e. a.0 (told (judge_of width before after) (Ok tt) e), λ h. ap answer_of (a.1 h))
 
 -- "Whatever the in-place fill writes at that width is accepted against the text it was given."
 pub check_filled : (width : ℕ) (text : List ℕ) → Limits width text → answer_of (judge_of width text (filled width text)) ≡ success 0
@@ -99,16 +103,16 @@ module _ (width : ℕ) (before after : List ℕ) where
             pub check_bad_change : (p : ℕ) → (answer_of (judge_of width before after) ≡ refusal 10 p) ↔ BadAt before after p
             unfolding answer_of
             check_bad_change p =
-                (λ a. says_bad width before after e (sym (check_changes e) ∙ told (judge_of width before after) (BadChange (record { 0 = p })) a), λ h. ap answer_of (check_changes e ∙ bad_said width before after e h))
+                (λ a. says_bad width before after e (sym (check_changes e) ∙ told (judge_of width before after) (Err (BadChange (record { 0 = p }))) a), λ h. ap answer_of (check_changes e ∙ bad_said width before after e h))
 
             -- 11, "a line of two or more words is too wide | first byte of the first such line": none of an earlier input line is, and none before it in its own.
             pub check_wide_line : (p : ℕ) → (answer_of (judge_of width before after) ≡ refusal 11 p) ↔ WideLineAt width before after p
             unfolding answer_of
             check_wide_line p =
-                (λ a. says_wide width before after e (sym (check_changes e) ∙ told (judge_of width before after) (WideLine (record { 0 = p })) a), λ h. ap answer_of (check_changes e ∙ wide_said width before after e h))
+                (λ a. says_wide width before after e (sym (check_changes e) ∙ told (judge_of width before after) (Err (WideLine (record { 0 = p }))) a), λ h. ap answer_of (check_changes e ∙ wide_said width before after e h))
 
             -- 12, "an input line has more lines than needed | first byte of the first such input line": a grouping of its words has fewer, and no earlier input line has one.
             pub check_many_lines : (p : ℕ) → (answer_of (judge_of width before after) ≡ refusal 12 p) ↔ ManyLinesAt width before after p
             unfolding answer_of
             check_many_lines p =
-                (λ a. says_many width before after e (sym (check_changes e) ∙ told (judge_of width before after) (ManyLines (record { 0 = p })) a), λ h. ap answer_of (check_changes e ∙ many_said width before after e h))
+                (λ a. says_many width before after e (sym (check_changes e) ∙ told (judge_of width before after) (Err (ManyLines (record { 0 = p }))) a), λ h. ap answer_of (check_changes e ∙ many_said width before after e h))

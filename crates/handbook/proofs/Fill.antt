@@ -20,7 +20,8 @@ use Rattle.lines.proofs.Breaking.{broken_length}
 use Rattle.lines.proofs.Rising.{differences, broken_other, broken_there}
 use Rattle.lines.proofs.Allowed.{break_allowed, breaks_counted}
 use Rattle.lines.proofs.Fewest.{breaks_lines, breaks_least, breaks_wider}
-use Rattle.fill.specs.Fill.{fill_of, leaves, answer_of}
+use Rattle.fill.specs.Fill.{fill_of, leaves}
+use Rattle.limits.specs.Limits.{answer_of}
 use Rattle.fill.proofs.Again.{again_none}
 use Rattle.fill.proofs.Kept.{filled_whole}
 

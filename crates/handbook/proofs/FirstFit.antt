@@ -1,5 +1,6 @@
 -- FIRST FIT: success and each refusal exactly when document 01 says, in its order 5, 4, 3, 7; and what first fit is worth: at one width and with no penalty widths no grouping of the words has fewer
 -- lines, and a larger width never needs more. `room` is the places of the list of ends.
+use Rattle.std.proofs.Common.{Ok}
 use mathlib.Core.Path.{◌≡◌}
 use mathlib.Core.List.{List, [], ◌∷◌}
 use Prim.Native.Nat.{ℕ, ◌+◌, ◌≤◌, ◌<◌, max}
@@ -9,11 +10,10 @@ use borrow.Author.Tests.{lt-ltb, le-ltb, eq-eqb, ne_eqb, leb-true, leb-false}
 use Rattle.units.specs.Limits.{fragments_most, width_most}
 use Rattle.units.specs.Answers.{success, refusal}
 use Rattle.logic.proofs.Count.{count_passes, count_stops}
-use Rattle.fragments.specs.declared.Tested.TheVariants.{Good}
 use Rattle.fragments.specs.Fragments.{Fragment, fragments}
-use Rattle.fragments.specs.Lists.{first_above, tested_of}
+use Rattle.fragments.specs.Lists.{found, first_above, tested_of}
 use Rattle.fragments.specs.Answers as laid
-use Rattle.fragments.proofs.Laws.{good_tested}
+use Rattle.fragments.proofs.Laws.{found_none, good_tested}
 use Rattle.first_fit.specs.FirstFit.{line_ends}
 use Rattle.first_fit.specs.Entry.{first_fit_of}
 use Rattle.first_fit.specs.Groupings.{Grouping, fit, lines, line_count}
@@ -51,8 +51,8 @@ module _ (words whites penalties widths : List ℕ) (room : ℕ) where
           rw (eq-eqb (length whites) (length words) e, eq-eqb (length penalties) (length words) f, le-ltb fragments_most (length words) l, lt-ltb (first_above width_most widths) (length widths) h)
 
       module _ (h : length widths ≤ first_above width_most widths) where
-        good : tested_of (length words) (length whites) (length penalties) (first_above width_most widths) (length widths) ≡ Good
-        good = good_tested (length words) (length whites) (length penalties) (first_above width_most widths) (length widths) (record { whites_same = e; penalties_same = f; few = l }) h
+        good : tested_of (length words) (length whites) (length penalties) (found (first_above width_most widths) (length widths)) ≡ Ok tt
+        good = good_tested (length words) (length whites) (length penalties) _ (record { whites_same = e; penalties_same = f; few = l }) (found_none _ _ h)
 
         pub first_fit_no_room : room < max 1 (length words) → laid.answer_of (first_fit_of words whites penalties widths room) ≡ refusal 7 (max 1 (length words))
         unfolding first_fit_of laid.answer_of

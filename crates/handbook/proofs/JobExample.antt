@@ -10,7 +10,8 @@ use Rattle.words.specs.Words.{content_end, white, after_word, word_at, words}
 use Rattle.first_fit.specs.FirstFit.{flags}
 use Rattle.lines.specs.Lines.{line_end, body_end, next_line, input_lines}
 use Rattle.lines.specs.Breaks.{places, breaks_of, breaks, breaks_all, text_breaks, broken, filled}
-use Rattle.fill.specs.Fill.{fill_of, answer_of}
+use Rattle.fill.specs.Fill.{fill_of}
+use Rattle.limits.specs.Limits.{answer_of}
 use Rattle.record.specs.Record.{head_of, answer_to, text_after, reply_of}
 use Rattle.record.specs.Stream.{replies_after, replies}
 

@@ -9,6 +9,7 @@ use native.Mathlib.Omega.{arith}
 use lib.Dec.{eqb}
 use lib.ListN.{length, take, drop}
 use borrow.Author.Tests.{lt-ltb, le-ltb}
+use Rattle.std.specs.Prelude.{Some, None, Ok, Err}
 use Rattle.units.specs.declared.Answer.{Answer}
 use Rattle.units.specs.Limits.{text_most, width_most}
 use Rattle.logic.specs.Choice.{pick}
@@ -18,8 +19,9 @@ use Rattle.chars.specs.Utf8.{first_fault, Whole}
 use Rattle.lines.specs.Breaks.{text_breaks, filled}
 use Rattle.lines.proofs.Rising.{differences}
 use Rattle.lines.proofs.Allowed.{breaks_counted}
-use Rattle.fill.specs.Fill.{fill_of, answer_of}
-use Rattle.record.specs.declared.Head.TheVariants.{End, Refused, Job}
+use Rattle.fill.specs.Fill.{fill_of}
+use Rattle.limits.specs.Limits.{answer_of}
+use Rattle.record.specs.declared.Job.{Job}
 use Rattle.record.specs.Record.{head_bytes, is_job, head_of, answer_to, text_after, reply_head, reply_of, settled, bytes_of}
 use Rattle.record.specs.Stream.{replies_after, replies, job_record, reply_record, last_reply}
 use Rattle.record.proofs.Streams as streams
@@ -109,15 +111,15 @@ cut_text = streams.cut_text
 -- ---- the program, at an input s
 
 -- It reads the first five bytes, or all that there is, and has `record` say what they are. Nothing: it stops.
-pub program_ends : (s : List ℕ) → head_of (take head_bytes s) ≡ End → replies s ≡ []
+pub program_ends : (s : List ℕ) → head_of (take head_bytes s) ≡ Ok None → replies s ≡ []
 program_ends = streams.at_end
 
 -- A refusal: it writes the reply, which says to stop.
-pub program_refuses : (s : List ℕ) {a : Answer} → head_of (take head_bytes s) ≡ Refused a → (replies s ≡ bytes_of (reply_of a 0) []) × ((reply_of a 0).more ≡ false)
+pub program_refuses : (s : List ℕ) {a : Answer} → head_of (take head_bytes s) ≡ Err a → (replies s ≡ bytes_of (reply_of a 0) []) × ((reply_of a 0).more ≡ false)
 program_refuses = streams.at_refused
 
 -- A job: so many bytes of the text came, and what is in the buffer is the text, if all of it came and the buffer holds it. It writes the reply, and goes on after the text where the reply says so.
-pub program_serves : (s : List ℕ) {w n : ℕ} (buffer : List ℕ) (came : ℕ) → head_of (take head_bytes s) ≡ Job w n → came ≡ length (take n (drop head_bytes s))
+pub program_serves : (s : List ℕ) {w n : ℕ} (buffer : List ℕ) (came : ℕ) → head_of (take head_bytes s) ≡ Ok (Some (record { width = w; len = n })) → came ≡ length (take n (drop head_bytes s))
     → (n ≤ came → n ≤ text_most → buffer ≡ take n (drop head_bytes s))
     → replies s ≡ bytes_of (settled w n came buffer) (text_after w n came buffer) ++ pick (settled w n came buffer).more (replies (drop (head_bytes + n) s)) []
 program_serves = streams.at_job

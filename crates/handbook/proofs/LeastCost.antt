@@ -1,5 +1,6 @@
 -- LEAST COST: the table that stands in the scratch is document 01's, and there is only one; the written ends are a layout of that cost; with one line width no layout costs less; success and each refusal
 -- exactly when document 01 says, in its order 5, 4, 3, 6, 7, 8; refusal 8 never comes. w, s, p and ws are the word, whitespace and penalty widths and the line widths, P the penalties.
+use Rattle.std.proofs.Common.{Ok, Err}
 use mathlib.Core.Path.{◌≡◌}
 use mathlib.Core.List.{List, [], ◌∷◌}
 use Prim.Native.Nat.{ℕ, ◌+◌, ◌≤◌, ◌<◌, min, max}
@@ -7,11 +8,10 @@ use lib.ListN.{length}
 use borrow.Author.Tests.{lt-ltb, le-ltb, eq-eqb, ne_eqb}
 use Rattle.units.specs.Limits.{fragments_most, width_most, cost_most}
 use Rattle.units.specs.Answers.{success, refusal}
-use Rattle.fragments.specs.declared.Laid.TheVariants.{TooDear}
-use Rattle.fragments.specs.declared.Tested.TheVariants.{Good}
-use Rattle.fragments.specs.Lists.{first_above, tested_of}
+use Rattle.fragments.specs.declared.ListRefusal.TheVariants.{TooDear}
+use Rattle.fragments.specs.Lists.{found, first_above, tested_of}
 use Rattle.fragments.specs.Answers.{answer_of}
-use Rattle.fragments.proofs.Laws.{good_tested}
+use Rattle.fragments.proofs.Laws.{found_none, good_tested}
 use Rattle.cheapest.specs.Lines.{Rises, cost_of}
 use Rattle.cheapest.specs.Table.{at, Table}
 use Rattle.cheapest.proofs.Table.{table_unique}
@@ -42,7 +42,7 @@ module _ (w s p ws : List ℕ) (P : Penalties) where
   least_of_all_layouts = laws.least_over_all w s p ws P
 
   -- Within the bounds no least cost exceeds 2^53: refusal 8 is never given to lists of 16-bit numbers.
-  pub eight_never : Short w → Short s → Short p → Short ws → (ends costs starts : ℕ) → laid_of w s p ws P ends costs starts ≡ TooDear → ⊥
+  pub eight_never : Short w → Short s → Short p → Short ws → (ends costs starts : ℕ) → laid_of w s p ws P ends costs starts ≡ Err TooDear → ⊥
   eight_never = laws.never_dear w s p ws P
 
   -- "No fragments give one empty line with end 0 and cost 0."
@@ -72,8 +72,8 @@ module _ (w s p ws : List ℕ) (P : Penalties) where
         least_cost_too_wide h = rw (eq-eqb (length s) (length w) e, eq-eqb (length p) (length w) f, le-ltb fragments_most (length w) l, lt-ltb (first_above width_most ws) (length ws) h)
 
         module _ (h : length ws ≤ first_above width_most ws) where
-          good : tested_of (length w) (length s) (length p) (first_above width_most ws) (length ws) ≡ Good
-          good = good_tested (length w) (length s) (length p) (first_above width_most ws) (length ws) (record { whites_same = e; penalties_same = f; few = l }) h
+          good : tested_of (length w) (length s) (length p) (found (first_above width_most ws) (length ws)) ≡ Ok tt
+          good = good_tested (length w) (length s) (length p) _ (record { whites_same = e; penalties_same = f; few = l }) (found_none _ _ h)
 
           -- "a penalty exceeds 1,000,000 | first such, 0 to 4": `first_big P` is the index of the first, and 5 where there is none.
           pub least_cost_big_penalty : first_big P < 5 → answer_of (laid_of w s p ws P ends costs starts) ≡ refusal 6 (first_big P)

@@ -9,6 +9,7 @@ use Rattle.pieces.specs.Pieces.{break_apart}
 use Rattle.first_fit.specs.Groupings.{line_width}
 use Rattle.lines.specs.Breaks.{fragment_of, text_breaks}
 use Rattle.fill.specs.Fill as fill
+use Rattle.limits.specs.Limits as limits
 use Rattle.judge.specs.Judge as check
 
 -- An answer as number, place and count.
@@ -36,7 +37,7 @@ fill_line text = line_width (map fragment_of (words text)) ∷ []
 
 -- What the fill answers, and then the bytes that it changes.
 abbrev pub filled : ℕ → List ℕ → List ℕ
-filled width text = numbers (fill.answer_of (fill.fill_of width text)) ++ text_breaks width text
+filled width text = numbers (limits.answer_of (fill.fill_of width text)) ++ text_breaks width text
 
 -- The check of a text after against the text before.
 abbrev pub checked : ℕ → List ℕ → List ℕ → List ℕ

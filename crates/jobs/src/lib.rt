@@ -6,27 +6,18 @@
 ghost use Rattle.std.specs.Prelude.{◌≡◌, ◌≤◌, length, OnErr};
 ghost use Rattle.units.specs.Limits.{text_most};
 
-use record::{HEAD_BYTES, Head, Reply};
+use record::{HEAD_BYTES, Job, Reply};
 use std::io;
 use std::io::{Read, Write};
 
 // Writes a reply, with the text where it is filled, and answers whether to go on; or the error of a write
 // that failed.
 fn send<W: Write>(output: &mut W, reply: Reply, text: &[u8]) -> io::Result<bool> {
-    let head = reply.head;
-    output.write_all(&head)?;
+    output.write_all(&reply.head)?;
     if reply.filled {
         output.write_all(text)?;
     }
     Ok(reply.more)
-}
-
-// Reads into a part of the buffer until that is full or the input ends. Answers how many bytes came.
-fn read<R: Read>(input: &mut R, part: &mut [u8]) -> usize
-    requires { length part.old ≤ text_most }
-    ensures { result ≤ text_most }
-{
-    streams::read_full(input, part)
 }
 
 // Reads the text of a job and replies to it. What the buffer cannot hold of a text that is too long is
@@ -35,16 +26,15 @@ fn serve_text<R: Read, W: Write>(
     buffer: &mut [u8],
     input: &mut R,
     output: &mut W,
-    width: u8,
-    len: u16,
+    job: Job,
 ) -> io::Result<bool>
     requires { length buffer.old ≡ text_most }
 {
-    let kept = record::kept(len);
-    let past = record::past(len);
-    let first = read(input, &mut buffer[..kept]);
-    let second = read(input, &mut buffer[..past]);
-    let reply = record::settle(&mut buffer[..kept], width, len, first + second);
+    let kept = record::kept(job.len);
+    let past = record::past(job.len);
+    let first = streams::read_full(input, &mut buffer[..kept]);
+    let second = streams::read_full(input, &mut buffer[..past]);
+    let reply = record::settle(&mut buffer[..kept], job, first + second);
     send(output, reply, &buffer[..kept])
 }
 
@@ -58,11 +48,10 @@ fn serve_one<R: Read, W: Write>(
 {
     let mut space = [0u8; HEAD_BYTES];
     let came = streams::read_full(input, &mut space);
-    let head = record::head_of(&space[..came]);
-    match head {
-        Head::End => Ok(false),
-        Head::Refused(answer) => send(output, record::reply_of(answer, 0), &buffer[..0]),
-        Head::Job { width, len } => serve_text(buffer, input, output, width, len),
+    match record::head_of(&space[..came]) {
+        Ok(Some(job)) => serve_text(buffer, input, output, job),
+        Ok(None) => Ok(false),
+        Err(answer) => send(output, record::reply_of(answer, 0), &[]),
     }
 }
 
@@ -73,9 +62,10 @@ pub fn serve<R: Read, W: Write>(buffer: &mut [u8], input: &mut R, output: &mut W
     ensures err { OnErr result (length buffer.new ≡ text_most) }
 {
     // a proved loop ends: this many records come in no day, and in no thousand years
-    let mut left = u64::MAX;
-    while left > 0 && serve_one(buffer, input, output)? {
-        left -= 1;
+    for _ in 0..u64::MAX {
+        if !serve_one(buffer, input, output)? {
+            break;
+        }
     }
     Ok(())
 }

@@ -17,35 +17,34 @@ use Rattle.chars.specs.Utf8.{first_fault}
 use Rattle.chars.proofs.Laws.{fault_fits}
 use Rattle.words.specs.Words.{words}
 use Rattle.lines.specs.Lines.{InputLine, input_lines, body_of}
-use Rattle.judge.specs.declared.Found.{Found}
-use Rattle.judge.specs.declared.Found.TheVariants.{At, Nowhere}
-use Rattle.judge.specs.declared.Judged.{Judged}
-use Rattle.judge.specs.declared.Judged.TheVariants.{Accepted}
 use Rattle.judge.specs.Change.{change_at, allowed, first_bad_from, first_bad}
 use Rattle.judge.specs.Judge.{many_of, wide_in, many_in, or_else, first_in, wide_by, lines_of, changes_of, judge_of}
 use Rattle.judge.specs.Demand.{Limits, AcceptedLine, AcceptedText}
 use Rattle.judge.proofs.Forming.{at_nowhere, formed_fine, fine_formed}
 use Rattle.judge.proofs.Allowing.{changed_broke, broke_allowed, kept_allowed, broke_is, is_broke, bad_before, bad_there}
+use Rattle.std.specs.Prelude.{None, Ok, Option, Result, Some, ⊤}
+use Rattle.judge.specs.declared.Rejection.{Rejection}
+use Rattle.units.specs.declared.Offset.{Offset}
 
 -- ---- nothing is found in a text exactly if nothing is found in any line
 
-pub first_none : (rule : InputLine → Found) (ls : List InputLine) → first_in rule ls ≡ Nowhere → (l : InputLine) → l ∈ ls → rule l ≡ Nowhere
+pub first_none : (rule : InputLine → Option Offset) (ls : List InputLine) → first_in rule ls ≡ None → (l : InputLine) → l ∈ ls → rule l ≡ None
 unfolding first_in
 first_none rule [] e l m = absurd (Memᴰ.not-nil m)
 first_none rule (k ∷ ls) e l m =
     let h = go (rule k) (first_in rule ls) e in
     ⊎_elim (λ x. rw x h.0) (λ x. first_none rule ls h.1 l x) (Memᴰ.cases_cons m)
   where
-    go : (f g : Found) → or_else f g ≡ Nowhere → (f ≡ Nowhere) × (g ≡ Nowhere)
-    go (At p) g e = absurd (at_nowhere e)
-    go Nowhere g e = (refl, e)
+    go : (f g : Option Offset) → or_else f g ≡ None → (f ≡ None) × (g ≡ None)
+    go (Some p) g e = absurd (at_nowhere e)
+    go None g e = (refl, e)
 
-pub none_first : (rule : InputLine → Found) (ls : List InputLine) → ((l : InputLine) → l ∈ ls → rule l ≡ Nowhere) → first_in rule ls ≡ Nowhere
+pub none_first : (rule : InputLine → Option Offset) (ls : List InputLine) → ((l : InputLine) → l ∈ ls → rule l ≡ None) → first_in rule ls ≡ None
 unfolding first_in
 none_first rule [] h = refl
 none_first rule (k ∷ ls) h = rw (h k (Memᴰ.head refl)) (none_first rule ls (λ l m. h l (Memᴰ.tail m)))
 
-many_none : (t : Bool) {f : Found} → pick t f Nowhere ≡ Nowhere → (f ≡ Nowhere → ⊥) → t ≡ false
+many_none : (t : Bool) {f : Option Offset} → pick t f None ≡ None → (f ≡ None → ⊥) → t ≡ false
 many_none true e d = absurd (d e)
 many_none false e d = refl
 
@@ -55,25 +54,25 @@ pub record Passed (width : ℕ) (b a : List ℕ) : Type 0 where
   pub limits : Limits width b
   pub lengths : length a ≡ length b
   pub good : length b ≤ first_bad b a
-  pub wide : first_in (wide_in width b a) (input_lines b) ≡ Nowhere
-  pub many : first_in (many_in width b a) (input_lines b) ≡ Nowhere
+  pub wide : first_in (wide_in width b a) (input_lines b) ≡ None
+  pub many : first_in (many_in width b a) (input_lines b) ≡ None
 
-passed_lines : (f g : Found) → wide_by f g ≡ Accepted → (f ≡ Nowhere) × (g ≡ Nowhere)
-passed_lines (At p) g e = let z : ◌≡◌ {A = ℕ} 0 1 = cc in absurd (omega arith)
-passed_lines Nowhere (At p) e = let z : ◌≡◌ {A = ℕ} 0 1 = cc in absurd (omega arith)
-passed_lines Nowhere Nowhere e = (refl, refl)
+passed_lines : (f g : Option Offset) → wide_by f g ≡ (Ok tt) → (f ≡ None) × (g ≡ None)
+passed_lines (Some p) g e = let z : ◌≡◌ {A = ℕ} 0 1 = cc in absurd (omega arith)
+passed_lines None (Some p) e = let z : ◌≡◌ {A = ℕ} 0 1 = cc in absurd (omega arith)
+passed_lines None None e = (refl, refl)
 
 -- a choice that came to Accepted, where one side is a refusal
-not_first : (t : Bool) {r j : Judged} → pick t r j ≡ Accepted → (r ≡ Accepted → ⊥) → (t ≡ false) × (j ≡ Accepted)
+not_first : (t : Bool) {r j : Result ⊤ Rejection} → pick t r j ≡ (Ok tt) → (r ≡ (Ok tt) → ⊥) → (t ≡ false) × (j ≡ (Ok tt))
 not_first true e d = absurd (d e)
 not_first false e d = (refl, e)
 
-not_second : (t : Bool) {r j : Judged} → pick t j r ≡ Accepted → (r ≡ Accepted → ⊥) → (t ≡ true) × (j ≡ Accepted)
+not_second : (t : Bool) {r j : Result ⊤ Rejection} → pick t j r ≡ (Ok tt) → (r ≡ (Ok tt) → ⊥) → (t ≡ true) × (j ≡ (Ok tt))
 not_second true e d = (refl, e)
 not_second false e d = absurd (d e)
 
 module _ (width : ℕ) (b a : List ℕ) where
-  pub accepted_passed : judge_of width b a ≡ Accepted → Passed width b a
+  pub accepted_passed : judge_of width b a ≡ (Ok tt) → Passed width b a
   unfolding judge_of changes_of lines_of
   accepted_passed e =
       let s1 = not_first (ltb text_most (length b)) e (λ x. let z : ◌≡◌ {A = ℕ} 0 1 = cc in omega arith) in
@@ -95,7 +94,7 @@ module _ (width : ℕ) (b a : List ℕ) where
         many = s7.1;
       }
 
-  pub passed_accepted : Passed width b a → judge_of width b a ≡ Accepted
+  pub passed_accepted : Passed width b a → judge_of width b a ≡ (Ok tt)
   unfolding judge_of changes_of lines_of
   passed_accepted k =
       let l = k.limits in
@@ -103,10 +102,10 @@ module _ (width : ℕ) (b a : List ℕ) where
 
   -- ---- and that is demand 3
 
-  pub line_fine : (l : InputLine) → AcceptedLine width b a l → (wide_in width b a l ≡ Nowhere) × (many_in width b a l ≡ Nowhere)
+  pub line_fine : (l : InputLine) → AcceptedLine width b a l → (wide_in width b a l ≡ None) × (many_in width b a l ≡ None)
   line_fine l h = let k = formed_fine width a l.start (words (body_of b l)) (h.fits, h.fewest) in (k.0, rw k.1)
 
-  pub fine_line : (l : InputLine) → wide_in width b a l ≡ Nowhere → many_in width b a l ≡ Nowhere → AcceptedLine width b a l
+  pub fine_line : (l : InputLine) → wide_in width b a l ≡ None → many_in width b a l ≡ None → AcceptedLine width b a l
   fine_line l h g =
       let k = fine_formed width a l.start (words (body_of b l)) (h, many_none (many_of width a l.start (words (body_of b l))) g at_nowhere) in
       record { fits = k.0; fewest = k.1 }
@@ -141,5 +140,5 @@ module _ (width : ℕ) (b a : List ℕ) where
           (λ u. rw (broke_allowed b a p (is_broke b a p t.lengths l (t.changes p l (eqb-false (get_or a p 0) (get_or b p 0) u)))))
 
   -- The check accepts exactly if the texts and the width are within the limits and demand 3 holds.
-  pub accepts : (judge_of width b a ≡ Accepted) ↔ (Limits width b × AcceptedText width b a)
+  pub accepts : (judge_of width b a ≡ (Ok tt)) ↔ (Limits width b × AcceptedText width b a)
   accepts = (λ e. let k = accepted_passed e in (k.limits, passed_text k), λ h. passed_accepted (text_passed h.0 h.1))

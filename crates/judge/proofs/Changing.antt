@@ -6,13 +6,14 @@ use Prim.Native.Nat.{ℕ, suc, ◌+◌, ◌-◌, ◌≤◌, ◌<◌}
 use native.Mathlib.Numerals.{add-one}
 use native.Mathlib.Omega.{arith}
 use lib.ListN.{length, get_or, get_or-eq_default}
-use borrow.Author.Tests.{eq-eqb, ne_eqb, not-true, not-false}
+use borrow.Author.Tests.{eq-eqb, ne_eqb, lt-ltb, le-ltb, not-true, not-false}
+use Rattle.std.specs.Prelude.{Some, None}
 use Rattle.logic.specs.Choice.{pick}
 use Rattle.words.specs.Words.{space}
 use Rattle.lines.specs.Lines.{newline, in_body}
 use Rattle.judge.specs.declared.Change.{Change}
 use Rattle.judge.specs.declared.Change.TheVariants.{Kept, Break, NotSpace, NotNewline, SpaceFollows, NoWord}
-use Rattle.judge.specs.Change.{change_at, allowed, first_bad_from, first_bad}
+use Rattle.judge.specs.Change.{change_at, allowed, first_bad_from, first_bad, bad_of}
 
 -- There is no space past the end.
 pub space_none : (s : List ℕ) (p : ℕ) → length s ≤ p → false ≡ space (get_or s p 0)
@@ -75,13 +76,17 @@ module _ {b a : List ℕ} {at : ℕ} (k : Sought b a at) where
       let h : allowed (change_at b a at) ≡ true = rw (← e, ← f, g) in
       record { same = sym (next_place l ∙ rw h); inside = omega arith }
 
-  pub sought_stop : {r : Change} {t : Bool} → at < length b → r ≡ change_at b a at → t ≡ allowed r → t ≡ false → at ≡ first_bad b a
+  pub sought_stop : {r : Change} {t : Bool} → at < length b → r ≡ change_at b a at → t ≡ allowed r → t ≡ false → Some (record { 0 = at }) ≡ bad_of b a
   sought_stop {r} {t} l e f g =
       let h : allowed (change_at b a at) ≡ false = rw (← e, ← f, g) in
-      sym (next_place l ∙ rw h)
+      let p : first_bad b a ≡ at = next_place l ∙ rw h in
+      rw (p, lt-ltb at (length b) l)
 
-  pub sought_end : length b ≤ at → at ≡ first_bad b a
+  pub sought_end : length b ≤ at → None ≡ bad_of b a
   unfolding first_bad_from
-  sought_end l = let e : length b - at ≡ 0 = omega arith in let s : first_bad_from b a 0 at ≡ first_bad b a = rw e at k.same in s
+  sought_end l =
+      let e : length b - at ≡ 0 = omega arith in
+      let s : first_bad_from b a 0 at ≡ first_bad b a = rw e at k.same in
+      rw (← s, le-ltb at (length b) l)
 
 pub ruleset seeking = (sought_start, sought_step, sought_stop, sought_end, not-true, not-false)

@@ -15,12 +15,13 @@ use Rattle.first_fit.proofs.Groupings.{fits_grouping, lines_count, count_least, 
 use Rattle.words.specs.declared.Word.{Word}
 use Rattle.words.specs.Lists.{start_of, width_of_word}
 use Rattle.lines.specs.Breaks.{fragment_of, columns_of}
-use Rattle.judge.specs.declared.Found.TheVariants.{At, Nowhere}
 use Rattle.judge.specs.Judge.{marks, wide_from, wide_of, given_of, needed_of, many_of}
 use Rattle.judge.specs.Demand.{formed_of}
+use Rattle.std.specs.Prelude.{None, Some}
+use Rattle.units.specs.declared.Offset.{Offset}
 
-pub at_nowhere : {o : _} → At o ≡ Nowhere → ⊥
-at_nowhere e = let z : ◌≡◌ {A = ℕ} 0 1 = cc in omega arith
+pub at_nowhere : {o : Offset} → Some o ≡ None → ⊥
+at_nowhere {o} e = let z : ◌≡◌ {A = ℕ} 0 1 = cc in omega arith
 
 -- ---- what is too wide, and what fits
 
@@ -30,7 +31,7 @@ fits_starts (fresh h) = h
 fits_joins : {w c : ℕ} {f : Fragment} {r : List Fragment} {b : List Bool} → Fits w c (f ∷ r) (false ∷ b) → (c + f.word ≤ w) × Fits w (c + (f.word + f.white)) r b
 fits_joins (join k h) = (k, h)
 
-pub wide_fits : (width start from c : ℕ) (ws : List Word) (b : List Bool) → length b ≡ length ws → wide_from width start from c ws b ≡ Nowhere → Fits width c (map fragment_of ws) b
+pub wide_fits : (width start from c : ℕ) (ws : List Word) (b : List Bool) → length b ≡ length ws → wide_from width start from c ws b ≡ None → Fits width c (map fragment_of ws) b
 unfolding wide_from
 wide_fits width start from c [] [] n e = none
 wide_fits width start from c [] (x ∷ b) n e = absurd (omega arith)
@@ -38,10 +39,10 @@ wide_fits width start from c (w ∷ ws) [] n e = absurd (omega arith)
 wide_fits width start from c (w ∷ ws) (true ∷ b) n e = fresh (wide_fits width start (start_of w) (columns_of w) ws b (omega arith) e)
 wide_fits width start from c (w ∷ ws) (false ∷ b) n e =
     both (ltb width (c + width_of_word w))
-    (λ t. let z : At (record { 0 = start + from }) ≡ Nowhere = rw t at e in absurd (at_nowhere z))
+    (λ t. let z : Some (record { 0 = start + from }) ≡ None = rw t at e in absurd (at_nowhere z))
     (λ t. join (ltb-false width (c + width_of_word w) t) (wide_fits width start from (c + columns_of w) ws b (omega arith) (rw t at e)))
 
-pub fits_wide : (width start from c : ℕ) (ws : List Word) (b : List Bool) → Fits width c (map fragment_of ws) b → wide_from width start from c ws b ≡ Nowhere
+pub fits_wide : (width start from c : ℕ) (ws : List Word) (b : List Bool) → Fits width c (map fragment_of ws) b → wide_from width start from c ws b ≡ None
 unfolding wide_from
 fits_wide width start from c [] b h = refl
 fits_wide width start from c (w ∷ ws) [] h = refl
@@ -99,7 +100,7 @@ Formed width after start ws =
 
 -- No line is too wide and there are not too many.
 abbrev pub Fine : ℕ → List ℕ → ℕ → List Word → Type 0
-Fine width after start ws = (wide_of width after start ws ≡ Nowhere) × (many_of width after start ws ≡ false)
+Fine width after start ws = (wide_of width after start ws ≡ None) × (many_of width after start ws ≡ false)
 
 module _ (width : ℕ) (after : List ℕ) (start : ℕ) where
   pub formed_fine : (ws : List Word) → Formed width after start ws → Fine width after start ws
@@ -126,17 +127,17 @@ module _ (width : ℕ) (after : List ℕ) (start : ℕ) where
       (g.good, λ others o. omega (arith, count_least o, some_line others o, lines_count k))
 
   -- Each half by itself.
-  pub fits_good : (ws : List Word) → wide_of width after start ws ≡ Nowhere → AllGood width (formed_of after start ws)
+  pub fits_good : (ws : List Word) → wide_of width after start ws ≡ None → AllGood width (formed_of after start ws)
   unfolding formed_of wide_of AllGood
   fits_good [] h = tt
   fits_good (w ∷ ws) h = (fits_grouping {f = fragment_of w} (wide_fits width start 0 (columns_of w) ws (marks after start ws) (marks_length after start ws ∙ length-map ws fragment_of) h)).good
 
-  pub good_none : (ws : List Word) → AllGood width (formed_of after start ws) → wide_of width after start ws ≡ Nowhere
+  pub good_none : (ws : List Word) → AllGood width (formed_of after start ws) → wide_of width after start ws ≡ None
   unfolding formed_of wide_of
   good_none [] h = refl
   good_none (w ∷ ws) h = fits_wide width start 0 (columns_of w) ws (marks after start ws) (formed_fits width (fragment_of w) (map fragment_of ws) (marks after start ws) (marks_length after start ws) h)
 
-  pub many_fewer : (ws : List Word) → wide_of width after start ws ≡ Nowhere → many_of width after start ws ≡ true
+  pub many_fewer : (ws : List Word) → wide_of width after start ws ≡ None → many_of width after start ws ≡ true
       → (others : List (List Fragment)) × Grouping width (map fragment_of ws) others × (length others < length (formed_of after start ws))
   unfolding formed_of wide_of given_of needed_of line_count
   many_fewer [] h g = absurd (omega (arith, ltb-true 0 0 g))

@@ -24,10 +24,9 @@ use Rattle.lines.specs.Lines.{newline}
 use Rattle.lines.specs.Breaks.{fragment_of, columns_of}
 use Rattle.lines.specs.Walk.{met_at, starts_at}
 use Rattle.lines.proofs.Walk.{met_stays, met_whole}
-use Rattle.judge.specs.declared.Found.TheVariants.{Nowhere}
 use Rattle.judge.specs.declared.Line.{Line}
-use Rattle.judge.specs.declared.Lined.TheVariants.{Good, Wide, Many}
 use Rattle.judge.specs.Judge.{marks, wide_from, wide_of, given_of, needed_of, many_of, lined_by, lined_of, Room, wide_at, placed_of}
+use Rattle.std.specs.Prelude.{Err, None, Ok}
 
 -- ---- one more word
 
@@ -106,7 +105,7 @@ abbrev pub no_line : Line
 no_line = record { start = record { 0 = 0 }; columns = record { 0 = 0 }; before = 0 }
 
 module _ (width : ℕ) (body after : List ℕ) (start : ℕ) where
-  pub judging_empty : length body ≡ 0 → Good ≡ lined_of width after start (words body)
+  pub judging_empty : length body ≡ 0 → Ok false ≡ lined_of width after start (words body)
   unfolding lined_of wide_of given_of needed_of words
   judging_empty e = rw (words_none body 0 (omega arith))
 
@@ -169,12 +168,12 @@ module _ {width : ℕ} {body after : List ℕ} {start : ℕ} {given fitted : Lin
       pub judging_from : Fits w64 (start + given.start.0)
       judging_from = record { fits = omega (arith, k.from, k.inside, k.small) }
 
-      pub judging_wide : t ≡ true → Wide (record { 0 = start + given.start.0 }) ≡ lined_of width after start (words body)
+      pub judging_wide : t ≡ true → Err (record { 0 = start + given.start.0 }) ≡ lined_of width after start (words body)
       unfolding lined_of wide_from
       judging_wide h = wide_found b p (rw (joined_test given.columns.0) at (sym q ∙ h))
         where
           wide_found : (b : Bool) → b ≡ newline (get_or after (start + at.0 - 1) 0) → pick b false (ltb width (given.columns.0 + width_of_word (word_at body at.0))) ≡ true
-              → Wide (record { 0 = start + given.start.0 }) ≡ lined_by (wide_of width after start (words body)) (many_of width after start (words body))
+              → Err (record { 0 = start + given.start.0 }) ≡ lined_by (wide_of width after start (words body)) (many_of width after start (words body))
           wide_found true p h = cc
           wide_found false p h = rw (← k.wide, next_marks, next_words, ← p, h)
 
@@ -203,18 +202,14 @@ module _ {width : ℕ} {body after : List ℕ} {start : ℕ} {given fitted : Lin
           })
 
   module _ (l : length body ≤ at.0) where
-    ended : (wide_of width after start (words body) ≡ Nowhere) × (given_of after start (words body) ≡ given.before) × (needed_of width (words body) ≡ fitted.before)
+    ended : (wide_of width after start (words body) ≡ None) × (given_of after start (words body) ≡ given.before) × (needed_of width (words body) ≡ fitted.before)
     unfolding wide_from started flags
     ended =
         let n = words_none body at.0 l in
         (sym k.wide ∙ rw n, sym k.lines ∙ rw n (omega arith), sym k.needed ∙ rw n (omega arith))
 
-    pub judging_many : fitted.before < given.before → Many ≡ lined_of width after start (words body)
+    pub judging_more : {b : Bool} → b ≡ ltb fitted.before given.before → Ok b ≡ lined_of width after start (words body)
     unfolding lined_of
-    judging_many h = let e = ended in rw (e.0, e.1, e.2, lt-ltb fitted.before given.before h)
+    judging_more h = let e = ended in rw (e.0, e.1, e.2, h)
 
-    pub judging_good : given.before ≤ fitted.before → Good ≡ lined_of width after start (words body)
-    unfolding lined_of
-    judging_good h = let e = ended in rw (e.0, e.1, e.2, le-ltb fitted.before given.before h)
-
-pub ruleset judging = (judging_empty, judging_room, judging_start, judging_room_given, judging_room_fitted, judging_less, judging_from, judging_wide, judging_step, judging_many, judging_good)
+pub ruleset judging = (judging_empty, judging_room, judging_start, judging_room_given, judging_room_fitted, judging_less, judging_from, judging_wide, judging_step, judging_more)

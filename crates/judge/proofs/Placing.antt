@@ -6,11 +6,8 @@ use native.Mathlib.Numerals.{add-one}
 use Rattle.units.specs.declared.Offset.{Offset}
 use Rattle.lines.specs.declared.Met.{Met}
 use Rattle.judge.specs.declared.Line.{Line}
-use Rattle.judge.specs.declared.Found.{Found}
-use Rattle.judge.specs.declared.Found.TheVariants.{At, Nowhere}
-use Rattle.judge.specs.declared.Lined.{Lined}
-use Rattle.judge.specs.declared.Lined.TheVariants.{Good, Wide, Many}
 use Rattle.judge.specs.Judge.{placed_of, many_next}
+use Rattle.std.specs.Prelude.{None, Option, Some}
 
 -- ---- `placed`, `is_wide` and `fit_word`
 
@@ -27,21 +24,17 @@ pub ruleset placing = (placed_starts, placed_joins)
 
 -- ---- `many_next`
 
-module _ {m : Found} {l : Lined} (start : ℕ) where
-  pub many_good : l ≡ Good → m ≡ many_next m l start
+module _ {m : Option Offset} {more : Bool} (start : ℕ) where
+  pub many_kept : more ≡ false → m ≡ many_next m more start
   unfolding many_next
-  many_good e = rw e
+  many_kept e = rw e
 
-  pub many_wide : {p : Offset} → l ≡ Wide p → m ≡ many_next m l start
-  unfolding many_next
-  many_wide e = rw e
-
-  pub many_first : {p : Offset} → l ≡ Many → m ≡ At p → At p ≡ many_next m l start
+  pub many_first : {p : Offset} → more ≡ true → m ≡ Some p → Some p ≡ many_next m more start
   unfolding many_next
   many_first e f = rw (e, f)
 
-  pub many_new : l ≡ Many → m ≡ Nowhere → At (record { 0 = start }) ≡ many_next m l start
+  pub many_new : more ≡ true → m ≡ None → Some (record { 0 = start }) ≡ many_next m more start
   unfolding many_next
   many_new e f = rw (e, f)
 
-pub ruleset manying = (many_good, many_wide, many_first, many_new)
+pub ruleset manying = (many_kept, many_first, many_new)

@@ -20,35 +20,34 @@ use Rattle.words.specs.Words.{words}
 use Rattle.words.specs.Lists.{start_of, width_of_word}
 use Rattle.lines.specs.Lines.{InputLine, input_lines, body_of}
 use Rattle.lines.specs.Breaks.{fragment_of, columns_of}
-use Rattle.judge.specs.declared.Found.{Found}
-use Rattle.judge.specs.declared.Found.TheVariants.{At, Nowhere}
-use Rattle.judge.specs.declared.Judged.{Judged}
-use Rattle.judge.specs.declared.Judged.TheVariants.{BadChange, WideLine, ManyLines}
 use Rattle.judge.specs.Change.{change_at, allowed, first_bad_from, first_bad}
 use Rattle.judge.specs.Judge.{marks, wide_from, wide_of, many_of, wide_in, many_in, or_else, first_in, wide_by, lines_of, changes_of}
 use Rattle.judge.specs.Demand.{Broken, formed_of, starts_of, line_starts, Wide, BadAt, WideAt, WideLineAt, ManyLinesAt}
 use Rattle.judge.proofs.Forming.{at_nowhere, fits_good, good_none, many_fewer, fine_formed}
 use Rattle.judge.proofs.Allowing.{changed_broke, broke_allowed, kept_allowed, broke_is, is_broke, bad_before, bad_there}
 use Rattle.judge.proofs.Accepting.{first_none, none_first, line_fine, fine_line}
+use Rattle.std.specs.Prelude.{Err, None, Option, Result, Some, ⊤}
+use Rattle.judge.specs.declared.Rejection.{Rejection}
+use Rattle.judge.specs.declared.Rejection.TheVariants.{BadChange, ManyLines, WideLine}
 
 -- ---- the first input line in which a rule finds something
 
-record First (rule : InputLine → Found) (ls : List InputLine) (o : Offset) : Type 0 where
+record First (rule : InputLine → Option Offset) (ls : List InputLine) (o : Offset) : Type 0 where
   earlier : List InputLine
   line : InputLine
   later : List InputLine
   split : ls ≡ earlier ++ line ∷ later
-  found : rule line ≡ At o
-  none : (l : InputLine) → l ∈ earlier → rule l ≡ Nowhere
+  found : rule line ≡ Some o
+  none : (l : InputLine) → l ∈ earlier → rule l ≡ None
 
-first_in_lem : (rule : InputLine → Found) (ls : List InputLine) {o : Offset} → first_in rule ls ≡ At o → First rule ls o
+first_in_lem : (rule : InputLine → Option Offset) (ls : List InputLine) {o : Offset} → first_in rule ls ≡ Some o → First rule ls o
 unfolding first_in
 first_in_lem rule [] e = absurd (at_nowhere (sym e))
 first_in_lem rule (l ∷ ls) {o} e = go (rule l) refl e (first_in_lem rule ls)
   where
-    go : (f : Found) → rule l ≡ f → or_else f (first_in rule ls) ≡ At o → (first_in rule ls ≡ At o → First rule ls o) → First rule (l ∷ ls) o
-    go (At p) q h k = record { earlier = []; line = l; later = ls; split = refl; found = q ∙ h; none = λ x m. absurd (Memᴰ.not-nil m) }
-    go Nowhere q h k =
+    go : (f : Option Offset) → rule l ≡ f → or_else f (first_in rule ls) ≡ Some o → (first_in rule ls ≡ Some o → First rule ls o) → First rule (l ∷ ls) o
+    go (Some p) q h k = record { earlier = []; line = l; later = ls; split = refl; found = q ∙ h; none = λ x m. absurd (Memᴰ.not-nil m) }
+    go None q h k =
         let r = k h in
         record {
           earlier = l ∷ r.earlier;
@@ -72,7 +71,7 @@ record Later (width start p : ℕ) (f : Fragment) (ws : List Word) (b : List Boo
   wide : Wide width (get_or (cut (map fragment_of ws) b).1 number [])
   place : o.0 ≡ start + get_or (starts_of ws b) number 0
 
-wide_first : (width start from c p : ℕ) (f : Fragment) (ws : List Word) (b : List Bool) {o : Offset} → length b ≡ length ws → c ≡ p + (f.word + f.white) → wide_from width start from c ws b ≡ At o
+wide_first : (width start from c p : ℕ) (f : Fragment) (ws : List Word) (b : List Bool) {o : Offset} → length b ≡ length ws → c ≡ p + (f.word + f.white) → wide_from width start from c ws b ≡ Some o
     → Now width start from p f ws b o ⊎ Later width start p f ws b o
 unfolding wide_from cut line_width AllGood Good starts_of
 wide_first width start from c p f [] b n e h = absurd (at_nowhere (sym h))
@@ -89,7 +88,7 @@ wide_first width start from c p f (w ∷ ws) (true ∷ b) n e h =
 wide_first width start from c p f (w ∷ ws) (false ∷ b) {o} n e h =
     both (ltb width (c + width_of_word w))
     (λ t.
-    let z : At (record { 0 = start + from }) ≡ At o = rw t at h in
+    let z : Some (record { 0 = start + from }) ≡ Some o = rw t at h in
     let y : record { 0 = start + from } ≡ o = cc in
     inl (ap (λ x. x.0) (sym y), omega arith, omega (arith, line_most_lem (cut (map fragment_of ws) b).0, ltb-true width (c + width_of_word w) t)))
     (λ t.
@@ -116,7 +115,7 @@ marks_length : (after : List ℕ) (start : ℕ) (ws : List Word) → length (mar
 marks_length after start [] = refl
 marks_length after start (w ∷ ws) = ap suc (marks_length after start ws)
 
-pub wide_in_line : (width : ℕ) (after : List ℕ) (start : ℕ) (ws : List Word) {o : Offset} → wide_of width after start ws ≡ At o → WideAt width after start ws o.0
+pub wide_in_line : (width : ℕ) (after : List ℕ) (start : ℕ) (ws : List Word) {o : Offset} → wide_of width after start ws ≡ Some o → WideAt width after start ws o.0
 unfolding wide_of formed_of line_starts AllGood Good
 wide_in_line width after start [] e = absurd (at_nowhere (sym e))
 wide_in_line width after start (w ∷ ws) {o} e =
@@ -132,37 +131,37 @@ wide_in_line width after start (w ∷ ws) {o} e =
 -- ---- what each answer says
 
 -- Where an answer of the lines comes from.
-lines_wide : (f g : Found) {o : Offset} → wide_by f g ≡ WideLine o → f ≡ At o
-lines_wide (At p) g e = cc
-lines_wide Nowhere (At p) e = cc
-lines_wide Nowhere Nowhere e = cc
+lines_wide : (f g : Option Offset) {o : Offset} → wide_by f g ≡ Err (WideLine o) → f ≡ Some o
+lines_wide (Some p) g e = cc
+lines_wide None (Some p) e = cc
+lines_wide None None e = cc
 
-lines_many : (f g : Found) {o : Offset} → wide_by f g ≡ ManyLines o → (f ≡ Nowhere) × (g ≡ At o)
-lines_many (At p) g e = (cc, cc)
-lines_many Nowhere (At p) e = (refl, cc)
-lines_many Nowhere Nowhere e = (cc, cc)
+lines_many : (f g : Option Offset) {o : Offset} → wide_by f g ≡ Err (ManyLines o) → (f ≡ None) × (g ≡ Some o)
+lines_many (Some p) g e = (cc, cc)
+lines_many None (Some p) e = (refl, cc)
+lines_many None None e = (cc, cc)
 
 module _ (width : ℕ) (b a : List ℕ) where
-  lines_bad : (ls : List InputLine) {o : Offset} → lines_of width b a ls ≡ BadChange o → ⊥
+  lines_bad : (ls : List InputLine) {o : Offset} → lines_of width b a ls ≡ Err (BadChange o) → ⊥
   unfolding lines_of
   lines_bad ls e = go (first_in (wide_in width b a) ls) (first_in (many_in width b a) ls) e
     where
-      go : (f g : Found) {o : Offset} → wide_by f g ≡ BadChange o → ⊥
-      go (At p) g e = let z : ◌≡◌ {A = ℕ} 0 1 = cc in omega arith
-      go Nowhere (At p) e = let z : ◌≡◌ {A = ℕ} 0 1 = cc in omega arith
-      go Nowhere Nowhere e = let z : ◌≡◌ {A = ℕ} 0 1 = cc in omega arith
+      go : (f g : Option Offset) {o : Offset} → wide_by f g ≡ Err (BadChange o) → ⊥
+      go (Some p) g e = let z : ◌≡◌ {A = ℕ} 0 1 = cc in omega arith
+      go None (Some p) e = let z : ◌≡◌ {A = ℕ} 0 1 = cc in omega arith
+      go None None e = let z : ◌≡◌ {A = ℕ} 0 1 = cc in omega arith
 
   -- All changes before the first bad byte are allowed breaks.
   before_bad : length a ≡ length b → (p q : ℕ) → p ≤ first_bad b a → p ≤ length b → q < p → (get_or a q 0 ≡ get_or b q 0 → ⊥) → Broken b a q
   unfolding first_bad
   before_bad n p q h k l d = broke_is b a q (omega arith) (changed_broke b a q (bad_before b a (length b) 0 q (omega arith) (omega arith)) d)
 
-  pub says_bad : {o : Offset} → length a ≡ length b → changes_of width b a ≡ BadChange o → BadAt b a o.0
+  pub says_bad : {o : Offset} → length a ≡ length b → changes_of width b a ≡ Err (BadChange o) → BadAt b a o.0
   unfolding changes_of first_bad
   says_bad {o} n e =
       both (ltb (first_bad b a) (length b))
       (λ t.
-      let z : BadChange (record { 0 = first_bad b a }) ≡ BadChange o = rw t at e in
+      let z : Err (BadChange (record { 0 = first_bad b a })) ≡ Err (BadChange o) = rw t at e in
       let y : record { 0 = first_bad b a } ≡ o = cc in
       let x : o.0 ≡ first_bad b a = ap (λ v. v.0) (sym y) in
       let l = ltb-true (first_bad b a) (length b) t in
@@ -176,14 +175,14 @@ module _ (width : ℕ) (b a : List ℕ) where
       (λ t. absurd (lines_bad (input_lines b) (rw t at e)))
 
   -- Where the answer is not 10, all changes are allowed breaks.
-  no_bad : {j : Judged} → changes_of width b a ≡ j → ((o : Offset) → BadChange o ≡ j → ⊥) → (length b ≤ first_bad b a) × (lines_of width b a (input_lines b) ≡ j)
+  no_bad : {j : Result ⊤ Rejection} → changes_of width b a ≡ j → ((o : Offset) → Err (BadChange o) ≡ j → ⊥) → (length b ≤ first_bad b a) × (lines_of width b a (input_lines b) ≡ j)
   unfolding changes_of
   no_bad {j} e d =
       both (ltb (first_bad b a) (length b))
       (λ t. absurd (d (record { 0 = first_bad b a }) (rw t at e)))
       (λ t. (ltb-false (first_bad b a) (length b) t, rw t at e))
 
-  pub says_wide : {o : Offset} → length a ≡ length b → changes_of width b a ≡ WideLine o → WideLineAt width b a o.0
+  pub says_wide : {o : Offset} → length a ≡ length b → changes_of width b a ≡ Err (WideLine o) → WideLineAt width b a o.0
   unfolding lines_of
   says_wide {o} n e =
       let k = no_bad e (λ p z. let y : ◌≡◌ {A = ℕ} 0 1 = cc in omega arith) in
@@ -198,13 +197,13 @@ module _ (width : ℕ) (b a : List ℕ) where
         wide = wide_in_line width a r.line.start (words (body_of b r.line)) r.found;
       }
 
-  pub says_many : {o : Offset} → length a ≡ length b → changes_of width b a ≡ ManyLines o → ManyLinesAt width b a o.0
+  pub says_many : {o : Offset} → length a ≡ length b → changes_of width b a ≡ Err (ManyLines o) → ManyLinesAt width b a o.0
   unfolding lines_of
   says_many {o} n e =
       let k = no_bad e (λ p z. let y : ◌≡◌ {A = ℕ} 0 1 = cc in omega arith) in
       let g = lines_many (first_in (wide_in width b a) (input_lines b)) (first_in (many_in width b a) (input_lines b)) k.1 in
       let r = first_in_lem (many_in width b a) (input_lines b) g.1 in
-      let none : (l : InputLine) → l ∈ input_lines b → wide_in width b a l ≡ Nowhere = first_none (wide_in width b a) (input_lines b) g.0 in
+      let none : (l : InputLine) → l ∈ input_lines b → wide_in width b a l ≡ None = first_none (wide_in width b a) (input_lines b) g.0 in
       let m : r.line ∈ input_lines b = subst (λ (x : List InputLine). r.line ∈ x) (sym r.split) (Memᴰ.append_right r.earlier (Memᴰ.head refl)) in
       let h = many_there (many_of width a r.line.start (words (body_of b r.line))) r.found in
       let f = many_fewer width a r.line.start (words (body_of b r.line)) (none r.line m) h.0 in
@@ -222,7 +221,7 @@ module _ (width : ℕ) (b a : List ℕ) where
         fewer = f.2;
       }
     where
-      many_there : (t : Bool) {p : ℕ} → pick t (At (record { 0 = p })) Nowhere ≡ At o → (t ≡ true) × (o.0 ≡ p)
+      many_there : (t : Bool) {p : ℕ} → pick t (Some (record { 0 = p })) None ≡ Some o → (t ≡ true) × (o.0 ≡ p)
       many_there true {p} e = let z : record { 0 = p } ≡ o = cc in (refl, ap (λ v. v.0) (sym z))
       many_there false e = absurd (at_nowhere (sym e))
 
@@ -253,19 +252,19 @@ same_place : (m n : ℕ) → (m < n → ⊥) → (n < m → ⊥) → m ≡ n
 same_place m n c d = both (ltb m n) (λ t. absurd (c (ltb-true m n t))) (λ t. both (ltb n m) (λ u. absurd (d (ltb-true n m u))) (λ u. omega (arith, ltb-false m n t, ltb-false n m u)))
 
 -- So a line that is the first too wide one is what is found.
-wide_is : (width : ℕ) (after : List ℕ) (start : ℕ) (ws : List Word) {p : ℕ} → WideAt width after start ws p → wide_of width after start ws ≡ At (record { 0 = p })
+wide_is : (width : ℕ) (after : List ℕ) (start : ℕ) (ws : List Word) {p : ℕ} → WideAt width after start ws p → wide_of width after start ws ≡ Some (record { 0 = p })
 wide_is width after start ws {p} h = go (wide_of width after start ws) refl
   where
-    go : (f : Found) → wide_of width after start ws ≡ f → f ≡ At (record { 0 = p })
-    go Nowhere e = absurd (good_all width (formed_of after start ws) h.number (fits_good width after start ws e) h.wide)
-    go (At o) e =
+    go : (f : Option Offset) → wide_of width after start ws ≡ f → f ≡ Some (record { 0 = p })
+    go None e = absurd (good_all width (formed_of after start ws) h.number (fits_good width after start ws e) h.wide)
+    go (Some o) e =
         let r = wide_in_line width after start ws e in
         let n : r.number ≡ h.number = same_place r.number h.number (λ l. good_taken width (formed_of after start ws) h.number r.number h.good l r.wide) (λ l. good_taken width (formed_of after start ws) r.number h.number r.good l h.wide) in
         let q : o.0 ≡ p = r.place ∙ rw n (sym h.place) in
         rw (← q)
 
-first_is : (rule : InputLine → Found) (earlier : List InputLine) (line : InputLine) (later : List InputLine) {o : Offset} → ((l : InputLine) → l ∈ earlier → rule l ≡ Nowhere) → rule line ≡ At o
-    → first_in rule (earlier ++ line ∷ later) ≡ At o
+first_is : (rule : InputLine → Option Offset) (earlier : List InputLine) (line : InputLine) (later : List InputLine) {o : Offset} → ((l : InputLine) → l ∈ earlier → rule l ≡ None) → rule line ≡ Some o
+    → first_in rule (earlier ++ line ∷ later) ≡ Some o
 unfolding first_in
 first_is rule [] line later h e = rw e
 first_is rule (x ∷ xs) line later h e = rw (h x (Memᴰ.head refl)) (first_is rule xs line later (λ l m. h l (Memᴰ.tail m)) e)
@@ -285,7 +284,7 @@ module _ (width : ℕ) (b a : List ℕ) (n : length a ≡ length b) where
       (λ u. rw (kept_allowed b a p (eqb-true (get_or a p 0) (get_or b p 0) u)))
       (λ u. rw (broke_allowed b a p (is_broke b a p n l (f (eqb-false (get_or a p 0) (get_or b p 0) u)))))
 
-  pub bad_said : {p : ℕ} → BadAt b a p → changes_of width b a ≡ BadChange (record { 0 = p })
+  pub bad_said : {p : ℕ} → BadAt b a p → changes_of width b a ≡ Err (BadChange (record { 0 = p }))
   unfolding changes_of first_bad
   bad_said {p} h =
       let l = h.inside in
@@ -307,24 +306,24 @@ module _ (width : ℕ) (b a : List ℕ) (n : length a ≡ length b) where
       absurd (clash (as_allowed (first_bad b a) l (f (first_bad b a) l)) (bad_there b a (length b) 0 (omega arith))))
       (λ t. rw t)
 
-  pub wide_said : {p : ℕ} → WideLineAt width b a p → changes_of width b a ≡ WideLine (record { 0 = p })
+  pub wide_said : {p : ℕ} → WideLineAt width b a p → changes_of width b a ≡ Err (WideLine (record { 0 = p }))
   unfolding lines_of
   wide_said {p} h =
       let e = first_is (wide_in width b a) h.earlier h.line h.later (λ l m. good_none width a l.start (words (body_of b l)) (h.good l m)) (wide_is width a h.line.start (words (body_of b h.line)) h.wide) in
-      let f : first_in (wide_in width b a) (input_lines b) ≡ At (record { 0 = p }) = ap (first_in (wide_in width b a)) h.split ∙ e in
+      let f : first_in (wide_in width b a) (input_lines b) ≡ Some (record { 0 = p }) = ap (first_in (wide_in width b a)) h.split ∙ e in
       good_said h.changes ∙ rw f
 
-  pub many_said : {p : ℕ} → ManyLinesAt width b a p → changes_of width b a ≡ ManyLines (record { 0 = p })
+  pub many_said : {p : ℕ} → ManyLinesAt width b a p → changes_of width b a ≡ Err (ManyLines (record { 0 = p }))
   unfolding lines_of
   many_said {p} h =
-      let none : (l : InputLine) → l ∈ input_lines b → wide_in width b a l ≡ Nowhere = λ l m. good_none width a l.start (words (body_of b l)) (h.good l m) in
+      let none : (l : InputLine) → l ∈ input_lines b → wide_in width b a l ≡ None = λ l m. good_none width a l.start (words (body_of b l)) (h.good l m) in
       let m : h.line ∈ input_lines b = subst (λ (x : List InputLine). h.line ∈ x) (sym h.split) (Memᴰ.append_right h.earlier (Memᴰ.head refl)) in
       let t = too_many (many_of width a h.line.start (words (body_of b h.line))) refl (none h.line m) in
-      let e : many_in width b a h.line ≡ At (record { 0 = p }) = rw (t, h.place) in
+      let e : many_in width b a h.line ≡ Some (record { 0 = p }) = rw (t, h.place) in
       let f = first_is (many_in width b a) h.earlier h.line h.later (λ l m. (line_fine width b a l (h.enough l m)).1) e in
-      let g : first_in (many_in width b a) (input_lines b) ≡ At (record { 0 = p }) = ap (first_in (many_in width b a)) h.split ∙ f in
+      let g : first_in (many_in width b a) (input_lines b) ≡ Some (record { 0 = p }) = ap (first_in (many_in width b a)) h.split ∙ f in
       good_said h.changes ∙ rw (none_first (wide_in width b a) (input_lines b) none, g)
     where
-      too_many : (t : Bool) → many_of width a h.line.start (words (body_of b h.line)) ≡ t → wide_in width b a h.line ≡ Nowhere → t ≡ true
+      too_many : (t : Bool) → many_of width a h.line.start (words (body_of b h.line)) ≡ t → wide_in width b a h.line ≡ None → t ≡ true
       too_many true e k = refl
       too_many false e k = absurd (omega (arith, h.fewer, (fine_formed width a h.line.start (words (body_of b h.line)) (k, e)).1 h.others h.grouping))

@@ -1,5 +1,6 @@
 -- Document 01, "Fill and check": what is wrong with a changed byte. "An allowed break is such a last space, with another word after it in the input line."
-use Rattle.std.specs.Prelude.{ℕ, zero, suc, Bool, true, false, List, eqb, length, get_or}
+use Rattle.std.specs.Prelude.{ℕ, zero, suc, Bool, true, false, List, eqb, ltb, length, get_or, Option, Some, None}
+use Rattle.units.specs.declared.Offset.{Offset}
 use Rattle.logic.specs.Choice.{pick}
 use Rattle.words.specs.Words.{space}
 use Rattle.lines.specs.Lines.{newline, in_body}
@@ -33,3 +34,7 @@ first_bad_from before after (suc n) p = pick (allowed (change_at before after p)
 
 unfoldable pub first_bad : List ℕ → List ℕ → ℕ
 first_bad before after = first_bad_from before after (length before) 0
+
+-- And whether there is one.
+abbrev pub bad_of : List ℕ → List ℕ → Option Offset
+bad_of before after = pick (ltb (first_bad before after) (length before)) (Some (record { 0 = first_bad before after })) None

@@ -11,12 +11,12 @@ ghost use Rattle.logic.specs.Choice.{pick};
 ghost use Rattle.chars.specs.Utf8.{Whole};
 ghost use Rattle.words.specs.Words.{space, words};
 ghost use Rattle.lines.specs.Lines.{newline, input_lines};
-ghost use Rattle.judge.specs.Change.{change_at, allowed, first_bad};
-ghost use Rattle.judge.specs.Judge.{lined_of, lines_of, changes_of, judge_of, answer_of, Room, wide_at, placed_of, many_next};
+ghost use Rattle.judge.specs.Change.{change_at, allowed, bad_of};
+ghost use Rattle.judge.specs.Judge.{lined_of, lines_of, changes_of, judge_of, rejection_of, answer_of, Room, wide_at, placed_of, many_next};
 
-use chars::Checked;
+use limits::TextRefusal;
 use lines::Met;
-use units::{Answer, Columns, Offset, TEXT_MOST, WIDTH_MOST};
+use units::{Answer, Columns, Offset, Refusal, TEXT_MOST, WIDTH_MOST};
 
 // What became of a byte: it was kept; or it is an allowed break; or it is a change of one of four kinds
 // that is none: it was no space; it is no newline; another space follows it; no further word does.
@@ -30,35 +30,29 @@ pub enum Change {
     NoWord,
 }
 
-// A place, or none.
-#[derive(Clone, Copy)]
-pub enum Found {
-    At(Offset),
-    Nowhere,
-}
-
-// What is wrong with an input line: nothing; or a line of two or more words is too wide, with its first
-// byte; or it has more lines than needed.
-#[derive(Clone, Copy)]
-pub enum Lined {
-    Good,
-    Wide(Offset),
-    Many,
-}
-
-// Accepted; or why not: too long, with the length; not UTF-8, with the first fault; a width above 255;
-// unequal lengths; a change that is no allowed break, a line that is too wide, or an input line with more
-// lines than needed, each with its first byte.
-#[derive(Clone, Copy)]
-pub enum Judged {
-    Accepted,
-    TooLong(Offset),
-    NotUtf8(Offset),
-    TooWide,
+// Why a text after is not accepted: what refuses a text; unequal lengths; a change that is no allowed break,
+// a line that is too wide, or an input line with more lines than needed, each with its first byte.
+#[derive(Clone, Copy, Debug, PartialEq, Eq)]
+pub enum Rejection {
+    Text(TextRefusal),
     Lengths,
     BadChange(Offset),
     WideLine(Offset),
     ManyLines(Offset),
+}
+
+impl From<Rejection> for Answer {
+    ghost from_gives = { λ why answer. answer ≡ rejection_of why };
+
+    fn from(why: Rejection) -> Answer {
+        match why {
+            Rejection::Text(refusal) => Answer::from(refusal),
+            Rejection::Lengths => Refusal::Lengths.at(0),
+            Rejection::BadChange(at) => Refusal::BadChange.at(at.0),
+            Rejection::WideLine(at) => Refusal::WideLine.at(at.0),
+            Rejection::ManyLines(at) => Refusal::ManyLines.at(at.0),
+        }
+    }
 }
 
 // A line of an input line while its words are read: where it starts, its columns with each word's
@@ -80,13 +74,11 @@ const NO_LINE: Line = Line {
 fn space_at(text: &[u8], at: usize) -> bool
     ensures { result ≡ space (get_or text.now at 0) }
 {
-    if at < text.len() {
-        return words::is_space(text[at]);
-    }
-    false
+    text.get(at).is_some_and(|b| words::is_space(*b))
 }
 
 // What became of the byte at a place.
+#[tactic(auto, using(crate::proofs::Changing::changing))]
 pub fn change_at(before: &[u8], after: &[u8], at: usize) -> Change
     requires { (at < length before.now) × (length after.now ≡ length before.now) }
     ensures { result ≡ change_at before.now after.now at }
@@ -114,32 +106,25 @@ pub fn change_at(before: &[u8], after: &[u8], at: usize) -> Change
 fn is_allowed(change: Change) -> bool
     ensures { result ≡ allowed change }
 {
-    match change {
-        Change::Kept => true,
-        Change::Break => true,
-        Change::NotSpace => false,
-        Change::NotNewline => false,
-        Change::SpaceFollows => false,
-        Change::NoWord => false,
-    }
+    matches!(change, Change::Kept | Change::Break)
 }
 
-// The first byte whose change is not allowed, or the length.
-fn first_bad(before: &[u8], after: &[u8]) -> usize
+// The first byte whose change is not allowed, if there is one.
+#[tactic(auto, using(crate::proofs::Changing::seeking))]
+fn first_bad(before: &[u8], after: &[u8]) -> Option<Offset>
     requires { length after.now ≡ length before.now }
-    ensures { result ≡ first_bad before.now after.now }
+    ensures { result ≡ bad_of before.now after.now }
 {
-    let mut at = 0;
-    while at < before.len() {
+    for at in 0..before.len() {
         if !is_allowed(change_at(before, after, at)) {
-            return at;
+            return Some(Offset(at));
         }
-        at += 1;
     }
-    at
+    None
 }
 
 // A line with one more word, which starts at `at`: joined to it, or starting the next.
+#[tactic(auto, using(crate::proofs::Placing::placing))]
 fn placed(line: Line, at: Offset, word: Met, starts: bool) -> Line
     requires { Room line word }
     ensures { result ≡ placed_of line at word starts }
@@ -192,14 +177,15 @@ fn after_newline(text: &[u8], place: usize) -> bool
     lines::is_newline(text[place - 1])
 }
 
-// What is wrong with the input line that starts at `start` and has this body. Its words are read once,
-// for the lines of the text after and for first fit's.
-fn judge_line(body: &[u8], after: &[u8], start: usize, width: usize) -> Lined
+// Whether the input line that starts at `start` and has this body has more lines than needed; or the first
+// byte of its first line that is too wide. Its words are read once, for the lines of the text after and for
+// first fit's.
+fn judge_line(body: &[u8], after: &[u8], start: usize, width: usize) -> Result<bool, Offset>
     requires { (start + length body.now ≤ text_most) × (start + length body.now ≤ length after.now) × Whole body.now }
     ensures { result ≡ lined_of width after.now start (words body.now) }
 {
     if body.len() == 0 {
-        return Lined::Good;
+        return Ok(false);
     }
     let first = lines::meet(body, Offset(0));
     let mut given = placed(NO_LINE, Offset(0), first, false);
@@ -211,105 +197,93 @@ fn judge_line(body: &[u8], after: &[u8], start: usize, width: usize) -> Lined
         at = word.next;
         let starts = after_newline(after, start + here.0);
         if is_wide(given, here, word, starts, width) {
-            return Lined::Wide(Offset(start + given.start.0));
+            return Err(Offset(start + given.start.0));
         }
         given = placed(given, here, word, starts);
         fitted = fit_word(fitted, here, word, width);
     }
-    if fitted.before < given.before {
-        return Lined::Many;
-    }
-    Lined::Good
+    Ok(fitted.before < given.before)
 }
 
 // The first input line with more lines than needed: the first so far, or else the one that starts at
-// `start`, by what is wrong with it.
-fn many_next(many: Found, lined: Lined, start: usize) -> Found
-    ensures { result ≡ many_next many lined start }
+// `start`, if it has more.
+#[tactic(auto, using(crate::proofs::Placing::manying))]
+fn many_next(many: Option<Offset>, more: bool, start: usize) -> Option<Offset>
+    ensures { result ≡ many_next many more start }
 {
-    match lined {
-        Lined::Good => many,
-        Lined::Wide(_) => many,
-        Lined::Many => match many {
-            Found::At(first) => Found::At(first),
-            Found::Nowhere => Found::At(Offset(start)),
-        },
+    if more {
+        many.or(Some(Offset(start)))
+    } else {
+        many
     }
 }
 
 // What is wrong with the input lines of a text, read one after the other: the first line that is too
 // wide, or else the first input line with more lines than needed.
-fn judge_lines(before: &[u8], after: &[u8], width: usize) -> Judged
+fn judge_lines(before: &[u8], after: &[u8], width: usize) -> Result<(), Rejection>
     requires { (length before.now ≤ text_most) × (length after.now ≡ length before.now) × Whole before.now }
     ensures { result ≡ lines_of width before.now after.now (input_lines before.now) }
 {
     let mut at = 0;
-    let mut many = Found::Nowhere;
+    let mut many = None;
     while at <= before.len() {
         let start = at;
         let end = lines::line_end(before, start);
         let body = lines::body_end(before, start, end);
         at = end + 1;
-        let lined = judge_line(&before[start..body], after, start, width);
-        if let Lined::Wide(first) = lined {
-            return Judged::WideLine(first);
+        match judge_line(&before[start..body], after, start, width) {
+            Ok(more) => many = many_next(many, more, start),
+            Err(first) => return Err(Rejection::WideLine(first)),
         }
-        many = many_next(many, lined, start);
     }
     match many {
-        Found::At(first) => Judged::ManyLines(first),
-        Found::Nowhere => Judged::Accepted,
+        Some(first) => Err(Rejection::ManyLines(first)),
+        None => Ok(()),
     }
 }
 
 // The changes of a text, then its lines.
-fn judge_changes(before: &[u8], after: &[u8], width: usize) -> Judged
+#[tactic(auto, using(crate::proofs::Entering::changes))]
+fn judge_changes(before: &[u8], after: &[u8], width: usize) -> Result<(), Rejection>
     requires { (length before.now ≤ text_most) × (length after.now ≡ length before.now) × Whole before.now }
     ensures { result ≡ changes_of width before.now after.now }
 {
-    let bad = first_bad(before, after);
-    if bad < before.len() {
-        return Judged::BadChange(Offset(bad));
+    match first_bad(before, after) {
+        Some(at) => Err(Rejection::BadChange(at)),
+        None => judge_lines(before, after, width),
     }
-    judge_lines(before, after, width)
 }
 
 // Whether a text after is accepted against the text before at a width.
-pub fn check(before: &[u8], after: &[u8], width: u32) -> Judged
+#[tactic(auto, using(crate::proofs::Entering::checking))]
+pub fn check(before: &[u8], after: &[u8], width: u32) -> Result<(), Rejection>
     ensures { result ≡ judge_of width before.now after.now }
 {
     if TEXT_MOST < before.len() {
-        return Judged::TooLong(Offset(before.len()));
+        return Err(Rejection::Text(TextRefusal::TooLong(Offset(before.len()))));
     }
     if TEXT_MOST < after.len() {
-        return Judged::TooLong(Offset(after.len()));
+        return Err(Rejection::Text(TextRefusal::TooLong(Offset(after.len()))));
     }
-    match chars::first_fault(before) {
-        Checked::Whole => {
-            if WIDTH_MOST < width {
-                return Judged::TooWide;
-            }
-            if after.len() != before.len() {
-                return Judged::Lengths;
-            }
-            judge_changes(before, after, width as usize)
-        }
-        Checked::Fault(at) => Judged::NotUtf8(at),
+    if let Some(fault) = chars::first_fault(before) {
+        return Err(Rejection::Text(TextRefusal::NotUtf8(fault)));
     }
+    if WIDTH_MOST < width {
+        return Err(Rejection::Text(TextRefusal::TooWide));
+    }
+    if after.len() != before.len() {
+        return Err(Rejection::Lengths);
+    }
+    judge_changes(before, after, width as usize)
 }
 
 // The numbers of document 01 for what the check answers.
-pub fn answer_of(j: Judged) -> Answer
+#[tactic(auto, using(crate::proofs::Entering::answer_of_lem), unfolding(crate::specs::Judge::answer_of))]
+pub fn answer_of(j: Result<(), Rejection>) -> Answer
     ensures { result ≡ answer_of j }
 {
     match j {
-        Judged::Accepted => units::done(0),
-        Judged::TooLong(length) => units::refused(1, length.0),
-        Judged::NotUtf8(at) => units::refused(2, at.0),
-        Judged::TooWide => units::refused(3, 0),
-        Judged::Lengths => units::refused(9, 0),
-        Judged::BadChange(at) => units::refused(10, at.0),
-        Judged::WideLine(at) => units::refused(11, at.0),
-        Judged::ManyLines(at) => units::refused(12, at.0),
+        Ok(()) => units::done(0),
+        Err(why) => Answer::from(why),
     }
 }

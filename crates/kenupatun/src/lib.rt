@@ -11,10 +11,11 @@ ghost use Rattle.kenupatun.specs.Exports.{measured, found, found_answer, word_ma
 ghost use Rattle.wire.specs.Wire.{numbers16};
 ghost use Rattle.kenupatun.specs.Exports.{first_fit, laid_answer, first_fit_left, five, LeastCost, fill, fill_answer, fill_left, judged};
 
+use fragments::FragmentLists;
 use least_cost::Penalties;
-use pieces::OneWord;
+use limits::TextRefusal;
 use units::{Answer, Columns, Offset};
-use words::Word;
+use words::{Word, WordLists};
 
 // What an entry answers, with a word: one of zeros where it is refused. C callers get it by value.
 #[repr(C)]
@@ -57,13 +58,13 @@ fn no_word() -> Word
 }
 
 // The word that a text is; a word of zeros where it is refused.
-fn word_in(w: OneWord) -> Word
+#[tactic(auto, unfolding(crate::specs::Exports::word_in))]
+fn word_in(w: Result<Word, TextRefusal>) -> Word
     ensures { result ≡ word_in w }
 {
     match w {
-        OneWord::Made(word) => word,
-        OneWord::TooLong(_) => no_word(),
-        OneWord::NotUtf8(_) => no_word(),
+        Ok(word) => word,
+        Err(_) => no_word(),
     }
 }
 
@@ -76,6 +77,7 @@ pub extern "C" fn kenupatun_measure(text: &[u8]) -> Answer
 }
 
 // The words of a text in four lists of 32-bit numbers, and how many there are; or refusal 1, 2 or 7.
+#[tactic(auto, using(crate::proofs::Answers::found_by, crate::proofs::Answers::words_by))]
 #[unsafe(no_mangle)]
 pub extern "C" fn kenupatun_words(
     text: &[u8],
@@ -90,7 +92,13 @@ pub extern "C" fn kenupatun_words(
     ensures whites_after { whites.new ≡ words_left (found text.now starts.old ends.old whites.old widths.old) white_of (words text.now) whites.old }
     ensures widths_after { widths.new ≡ words_left (found text.now starts.old ends.old whites.old widths.old) width_of_word (words text.now) widths.old }
 {
-    words::answer_of(word_bytes::find_words(text, starts, ends, whites, widths))
+    let mut lists = WordLists {
+        starts,
+        ends,
+        whites,
+        widths,
+    };
+    limits::answer_of(words::find_words(text, &mut lists))
 }
 
 // A text as one word, the spaces at its end being its whitespace; or refusal 1 or 2.
@@ -103,6 +111,7 @@ pub extern "C" fn kenupatun_word_from(text: &[u8]) -> WordAnswer
 }
 
 // The pieces of a text that is one word, in four lists; or refusal 1, 2, 3 or 7.
+#[tactic(auto, using(crate::proofs::Answers::broken_by, crate::proofs::Answers::pieces_by))]
 #[unsafe(no_mangle)]
 pub extern "C" fn kenupatun_break_word(
     text: &[u8],
@@ -118,10 +127,17 @@ pub extern "C" fn kenupatun_break_word(
     ensures whites_after { whites.new ≡ pieces_left (broken_word text.now width starts.old ends.old whites.old widths.old) white_of (break_apart text.now width) whites.old }
     ensures widths_after { widths.new ≡ pieces_left (broken_word text.now width starts.old ends.old whites.old widths.old) width_of_word (break_apart text.now width) widths.old }
 {
-    pieces::answer_of(piece_bytes::break_apart(text, width, starts, ends, whites, widths))
+    let mut lists = WordLists {
+        starts,
+        ends,
+        whites,
+        widths,
+    };
+    limits::answer_of(pieces::break_apart(text, width, &mut lists))
 }
 
 // The words of a text, those that are wider broken, in four lists; or refusal 1, 2, 3 or 7.
+#[tactic(auto, using(crate::proofs::Answers::broken_by, crate::proofs::Answers::pieces_by))]
 #[unsafe(no_mangle)]
 pub extern "C" fn kenupatun_break_words(
     text: &[u8],
@@ -137,7 +153,13 @@ pub extern "C" fn kenupatun_break_words(
     ensures whites_after { whites.new ≡ pieces_left (broken_words text.now width starts.old ends.old whites.old widths.old) white_of (break_words text.now width) whites.old }
     ensures widths_after { widths.new ≡ pieces_left (broken_words text.now width starts.old ends.old whites.old widths.old) width_of_word (break_words text.now width) widths.old }
 {
-    pieces::answer_of(piece_bytes::break_words(text, width, starts, ends, whites, widths))
+    let mut lists = WordLists {
+        starts,
+        ends,
+        whites,
+        widths,
+    };
+    limits::answer_of(pieces::break_words(text, width, &mut lists))
 }
 
 // The ends of the lines of first fit, in a list of 16-bit numbers, and how many lines there are; or
@@ -153,7 +175,12 @@ pub extern "C" fn kenupatun_first_fit(
     ensures value { result ≡ laid_answer (first_fit words.now whites.now penalties.now widths.now ends.old) }
     ensures ends_after { ends.new ≡ first_fit_left (first_fit words.now whites.now penalties.now widths.now ends.old) words.now whites.now penalties.now widths.now ends.old }
 {
-    fragments::answer_of(layout_bytes::wrap_first_fit(words, whites, penalties, widths, ends))
+    let lists = FragmentLists {
+        words,
+        whites,
+        penalties,
+    };
+    fragments::answer_of(first_fit::wrap_first_fit(&lists, widths, ends))
 }
 
 // The ends of the lines of the least cost, in a list of 16-bit numbers, and how many lines there are; the
@@ -184,18 +211,22 @@ pub extern "C" fn kenupatun_least_cost(
         short,
         hyphen,
     };
-    fragments::answer_of(cost_bytes::wrap_optimal_fit(
-        words, whites, penalties, widths, p, ends, costs, starts,
-    ))
+    let lists = FragmentLists {
+        words,
+        whites,
+        penalties,
+    };
+    fragments::answer_of(cost_bytes::wrap_optimal_fit(&lists, widths, p, ends, costs, starts))
 }
 
 // Fills a text where it stands, and counts the bytes changed; or refusal 1, 2 or 3.
+#[tactic(auto, using(crate::proofs::Answers::filled_by))]
 #[unsafe(no_mangle)]
 pub extern "C" fn kenupatun_fill(text: &mut [u8], width: u32) -> Answer
     ensures value { result ≡ fill_answer (fill width text.old) }
     ensures text_after { text.new ≡ fill_left (fill width text.old) width text.old }
 {
-    fill::answer_of(fill::fill_inplace(text, width))
+    limits::answer_of(fill::fill_inplace(text, width))
 }
 
 // Whether a text after is accepted against the text before at a width; or refusal 1, 2, 3, 9, 10, 11 or

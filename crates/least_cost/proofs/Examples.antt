@@ -1,10 +1,10 @@
 -- Document 01's examples of least cost, computed from the definitions: ends and cost.
+use Rattle.std.proofs.Common.{Ok}
 use mathlib.Core.Path.{◌≡◌, refl}
 use mathlib.Core.List.{List, [], ◌∷◌}
 use Prim.Native.Nat.{ℕ}
 use lib.ListN.{length}
 use Rattle.fragments.specs.Lists.{width_of, first_above, tested_of}
-use Rattle.fragments.specs.declared.Laid.TheVariants.{Lines}
 use Rattle.logic.specs.Count.{count}
 use Rattle.cheapest.specs.Least.{first_least}
 use Rattle.cheapest.specs.Lines.{line_in, line_of, ends_in, ends_of}
@@ -20,7 +20,7 @@ defaults = record { line = 1000; overflow = 2500; fraction = 4; short = 25; hyph
 -- What is asked of a layout of the fragments w, s, p in one width, with the default penalties: how many lines, their ends, and the cost.
 abbrev Lays : List ℕ → List ℕ → List ℕ → ℕ → List ℕ → ℕ → Type 0
 Lays w s p width es cost =
-    (laid_of w s p (width ∷ []) defaults 10 11 11 ≡ Lines (length es))
+    (laid_of w s p (width ∷ []) defaults 10 11 11 ≡ Ok (length es))
     × (ends_of_lines w s p (width ∷ []) defaults ≡ es)
     × (at (costs_of w s p (width ∷ []) defaults) (length w) ≡ cost)
 

@@ -90,8 +90,6 @@ module _ (w s p ws : List ℕ) (P : Penalties) (widest : ℕ) (C₀ S₀ : List 
 
     pub filling_ready : Ready w s p P T widest C (j + 1)
     filling_ready = record {
-      small = f.done.fixed.small;
-      even = f.done.fixed.even;
       above = omega arith;
       within = omega arith;
       room = omega (arith, f.done.room, f.done.fixed.room);
@@ -184,13 +182,13 @@ module _ (w s p ws : List ℕ) (P : Penalties) (widest : ℕ) (C₀ S₀ : List 
 -- ---- the start and the end; E and F are the scratch lists before the first store
 
 module _ (w s p ws : List ℕ) (P : Penalties) (widest : ℕ) (E F : List ℕ) where
-  pub filling_start : {T N : List ℕ} → Fillable w s p ws P T N E F → Short w → Short s → Short p → Short ws → Widest ws widest
+  pub filling_start : {T N : List ℕ} → Small P → Even w s p → Fillable w ws T N E F → Short w → Short s → Short p → Short ws → Widest ws widest
       → Filling w s p ws P widest (set E 0 0) (set F 0 0) T N (set E 0 0) (set F 0 0) 0
-  filling_start {T} {N} f hw hs hp hws m = record {
+  filling_start {T} {N} small even f hw hs hp hws m = record {
     done = record {
       fixed = record {
-        small = f.small;
-        even = f.even;
+        small = small;
+        even = even;
         words = hw;
         whites = hs;
         penalties = hp;
@@ -227,10 +225,8 @@ module _ (w s p ws : List ℕ) (P : Penalties) (widest : ℕ) (E F : List ℕ) w
 pub ruleset filling = (filling_ready, filling_done, filling_one, filling_many, chosen_falls)
 
 -- Every target is that of the first line.
-pub filling_all : {w s p ws : List ℕ} {P : Penalties} {C S : List ℕ} {t : ℕ} → Searchable w s p P C S → t ≡ target ws 0 → Fillable w s p ws P (replicate 4097 t) (replicate 4097 0) C S
-filling_all {w} {s} {p} {ws} {P} {C} {S} {t} h e = record {
-  small = h.small;
-  even = h.even;
+pub filling_all : {w ws C S : List ℕ} {t : ℕ} → Searchable w C S → t ≡ target ws 0 → Fillable w ws (replicate 4097 t) (replicate 4097 0) C S
+filling_all {w} {ws} {C} {S} {t} h e = record {
   costs = h.costs;
   starts = h.starts;
   long = length-replicate 4097 t;

@@ -1,5 +1,6 @@
 -- What callers and the handbook use: how long the lists are, that the written ends are a layout of the cost that stands in the scratch, that with one line width no layout costs less, and that refusal 8
 -- never comes.
+use Rattle.std.proofs.Common.{Option, Result, Ok, Err}
 use mathlib.Core.Path.{◌≡◌, refl, ap, ◌∙◌}
 use mathlib.Core.List.{List, [], ◌∷◌}
 use Prim.Native.Nat.{ℕ, zero, suc, ◌+◌, ◌^◌, ◌≤◌, ◌<◌, max}
@@ -7,13 +8,12 @@ use native.Mathlib.Omega.{arith}
 use lib.Dec.{ltb}
 use lib.ListN.{length}
 use borrow.Author.Tests.{le-ltb}
-use Rattle.units.specs.Limits.{width_most, fragments_most, cost_most}
+use Rattle.units.specs.Limits.{fragments_most, cost_most}
 use Rattle.logic.specs.Choice.{pick}
 use Rattle.logic.proofs.Choice.{both}
-use Rattle.fragments.specs.Lists.{first_above, tested_of}
-use Rattle.fragments.specs.declared.Tested.{Tested}
-use Rattle.fragments.specs.declared.Laid.{Laid}
-use Rattle.fragments.specs.declared.Laid.TheVariants.{Lines, TooDear}
+use Rattle.fragments.specs.Lists.{found, list_test}
+use Rattle.fragments.specs.declared.ListRefusal.{ListRefusal}
+use Rattle.fragments.specs.declared.ListRefusal.TheVariants.{TooDear}
 use Rattle.fragments.proofs.Laws.{Sound, tested_good}
 use Rattle.cheapest.specs.Lines.{Rises, cost_of, ends_of}
 use Rattle.cheapest.specs.Table.{at, Table}
@@ -21,8 +21,6 @@ use Rattle.cheapest.proofs.Lines.{ends_length, line_le}
 use Rattle.cheapest.proofs.Table.{table_computed, costs_length, starts_length}
 use Rattle.cheapest.proofs.Laws.{Back, back, least_of_all}
 use Rattle.least_cost.specs.declared.Penalties.{Penalties}
-use Rattle.least_cost.specs.declared.Admission.{Admission}
-use Rattle.least_cost.specs.declared.Admission.TheVariants.{Open, Shut}
 use Rattle.least_cost.specs.Price.{price_at, price}
 use Rattle.least_cost.specs.Layout.{first_big, admission_of, lines_of, laid_from, scratch_after, costs_of, starts_of, ends_of_lines, laid_of}
 use Rattle.least_cost.specs.Search.{Small}
@@ -83,25 +81,25 @@ module _ (w s p ws : List ℕ) (P : Penalties) where
   least_over_all h = least_of_all (price w s p ws P) (length w) (at (costs_of w s p ws P)) (at (starts_of w s p ws P)) scratch_table (one_width h)
 
   -- An answer that writes to the scratch says that the search was begun, and it is that of the last step.
-  tests : Tested
-  tests = tested_of (length w) (length s) (length p) (first_above width_most ws) (length ws)
+  tests : Result (Unit {0}) ListRefusal
+  tests = list_test w s p ws
 
-  begun : (ends costs starts : ℕ) (r : Laid) → scratch_after r (0 ∷ []) (1 ∷ []) ≡ 0 ∷ [] → laid_of w s p ws P ends costs starts ≡ r
-      → Opened tests (first_big P) (length w) ends costs starts × (pick (ltb cost_most (at (costs_of w s p ws P) (length w))) TooDear (Lines (length (ends_of_lines w s p ws P))) ≡ r)
+  begun : (ends costs starts : ℕ) (r : Result ℕ ListRefusal) → scratch_after r (0 ∷ []) (1 ∷ []) ≡ 0 ∷ [] → laid_of w s p ws P ends costs starts ≡ r
+      → Opened tests (found (first_big P) 5) (length w) ends costs starts × (pick (ltb cost_most (at (costs_of w s p ws P) (length w))) (Err TooDear) (Ok (length (ends_of_lines w s p ws P))) ≡ r)
   unfolding laid_of tests
-  begun ends costs starts r writes = go (admission_of tests (first_big P) (length w) ends costs starts) refl
+  begun ends costs starts r writes = go (admission_of tests (found (first_big P) 5) (length w) ends costs starts) refl
     where
-      go : (a : Admission) → a ≡ admission_of tests (first_big P) (length w) ends costs starts → laid_from a (at (costs_of w s p ws P) (length w)) (length (ends_of_lines w s p ws P)) ≡ r
-          → Opened tests (first_big P) (length w) ends costs starts × (pick (ltb cost_most (at (costs_of w s p ws P) (length w))) TooDear (Lines (length (ends_of_lines w s p ws P))) ≡ r)
-      go (Shut why) e h =
-          let k = (shut_keeps tests (first_big P) (length w) ends costs starts why e (0 ∷ []) (1 ∷ [])).1 in
-          let z : ◌≡◌ {A = List ℕ} (1 ∷ []) (0 ∷ []) = (rw h at k) ∙ writes in
+      go : (a : Result (Unit {0}) ListRefusal) → a ≡ admission_of tests (found (first_big P) 5) (length w) ends costs starts → laid_from a (at (costs_of w s p ws P) (length w)) (length (ends_of_lines w s p ws P)) ≡ r
+          → Opened tests (found (first_big P) 5) (length w) ends costs starts × (pick (ltb cost_most (at (costs_of w s p ws P) (length w))) (Err TooDear) (Ok (length (ends_of_lines w s p ws P))) ≡ r)
+      go (Err why) e h =
+          let k = (shut_keeps _ _ _ _ (found (first_big P) 5) (length w) ends costs starts why e (0 ∷ []) (1 ∷ [])).1 in
+          let z : ◌≡◌ {A = List ℕ} (1 ∷ []) (0 ∷ []) = k ∙ ap (λ (x : Result ℕ ListRefusal). scratch_after x (0 ∷ []) (1 ∷ [])) h ∙ writes in
           never (cc)
-      go Open e h = (open_says tests (first_big P) (length w) ends costs starts e, h)
+      go (Ok u) e h = (open_says tests (found (first_big P) 5) (length w) ends costs starts e, h)
 
-  alike : {big ends costs starts : ℕ} → Opened tests big (length w) ends costs starts → Sound (length w) (length s) (length p)
+  alike : {big : Option ℕ} {ends costs starts : ℕ} → Opened tests big (length w) ends costs starts → Sound (length w) (length s) (length p)
   unfolding tests
-  alike o = (tested_good (length w) (length s) (length p) (first_above width_most ws) (length ws) refl o.good).0
+  alike o = (tested_good _ _ _ _ o.good).0
 
   -- What an answer of k lines says: that is how many ends there are, and every list has the places that are written.
   pub record Fitting (k ends costs starts : ℕ) : Type 0 where
@@ -113,14 +111,14 @@ module _ (w s p ws : List ℕ) (P : Penalties) where
     pub places : length w + 1 ≤ costs
     pub others : length w + 1 ≤ starts
 
-  pub lines_fit : (k ends costs starts : ℕ) → laid_of w s p ws P ends costs starts ≡ Lines k → Fitting k ends costs starts
+  pub lines_fit : (k ends costs starts : ℕ) → laid_of w s p ws P ends costs starts ≡ Ok k → Fitting k ends costs starts
   lines_fit k ends costs starts h =
-      let b = begun ends costs starts (Lines k) refl h in
+      let b = begun ends costs starts (Ok k) refl h in
       let g = alike b.0 in
       both (ltb cost_most (at (costs_of w s p ws P) (length w)))
-      (λ t. let z : TooDear ≡ Lines k = rw t at b.1 in never (cc))
+      (λ t. let z : Err TooDear ≡ Ok k = rw t at b.1 in never (cc))
       (λ t.
-      let z : Lines (length (ends_of_lines w s p ws P)) ≡ Lines k = rw t at b.1 in
+      let z : Ok (length (ends_of_lines w s p ws P)) ≡ Ok k = rw t at b.1 in
       record {
         count = cc;
         whites = g.whites_same;
@@ -137,9 +135,9 @@ module _ (w s p ws : List ℕ) (P : Penalties) where
     least_cap few small =
         cost_cap w s p ws P hw hs hp hws small (length w) (at (costs_of w s p ws P)) (at (starts_of w s p ws P)) scratch_table few (length w) (omega arith)
 
-    pub never_dear : (ends costs starts : ℕ) → laid_of w s p ws P ends costs starts ≡ TooDear → ⊥
+    pub never_dear : (ends costs starts : ℕ) → laid_of w s p ws P ends costs starts ≡ Err TooDear → ⊥
     never_dear ends costs starts h =
-        let b = begun ends costs starts TooDear refl h in
+        let b = begun ends costs starts (Err TooDear) refl h in
         let l : at (costs_of w s p ws P) (length w) ≤ cost_most = omega (arith, least_cap (alike b.0).few (small_says P b.0.cheap)) in
-        let z : Lines (length (ends_of_lines w s p ws P)) ≡ TooDear = rw (le-ltb cost_most (at (costs_of w s p ws P) (length w)) l) at b.1 in
+        let z : Ok (length (ends_of_lines w s p ws P)) ≡ Err TooDear = rw (le-ltb cost_most (at (costs_of w s p ws P) (length w)) l) at b.1 in
         never (cc)

@@ -34,20 +34,20 @@ module _ (P : Penalties) (T L : ℕ) where
   pub over_fits : {o : ℕ} → Small P → L ≤ 2 ^ 30 → o ≡ P.overflow → Fits w64 (o * (L - T))
   over_fits h b e = record { fits = rw e (omega (arith, over h b)) }
 
-  pub square_fits : {i : ℕ} → Sized P T L i → Fits w64 ((T - L) * (T - L))
+  pub square_fits : {i : ℕ} → Sized T L i → Fits w64 ((T - L) * (T - L))
   square_fits z = record { fits = omega (arith, square z.target) }
 
-  pub part_fits : {f i : ℕ} → Sized P T L i → f ≡ P.fraction → Fits w64 (L * f)
-  part_fits z e = record { fits = rw e (omega (arith, part z.small z.len)) }
+  pub part_fits : {f i : ℕ} → Small P → Sized T L i → f ≡ P.fraction → Fits w64 (L * f)
+  part_fits s z e = record { fits = rw e (omega (arith, part s z.len)) }
 
 -- ---- what the line pays for its width
 
 module _ (P : Penalties) (T L i j n : ℕ) where
-  pub width_over : {o : ℕ} → Sized P T L i → T < L → o ≡ P.overflow → (o * (L - T) ≡ width_price P T L i j n) × (o * (L - T) ≤ 1000000 * 2 ^ 30)
+  pub width_over : {o : ℕ} → Small P → Sized T L i → T < L → o ≡ P.overflow → (o * (L - T) ≡ width_price P T L i j n) × (o * (L - T) ≤ 1000000 * 2 ^ 30)
   unfolding width_price
-  width_over z a e = rw e (simp (lt-ltb T L a), over P T L z.small z.len)
+  width_over s z a e = rw e (simp (lt-ltb T L a), over P T L s z.len)
 
-  pub width_gap : Sized P T L i → L ≤ T → (j ≡ n → ⊥) → ((T - L) * (T - L) ≡ width_price P T L i j n) × ((T - L) * (T - L) ≤ 1000000 * 2 ^ 30)
+  pub width_gap : Sized T L i → L ≤ T → (j ≡ n → ⊥) → ((T - L) * (T - L) ≡ width_price P T L i j n) × ((T - L) * (T - L) ≤ 1000000 * 2 ^ 30)
   unfolding width_price
   width_gap z a m = (simp (le-ltb T L a, ne_eqb j n m), omega (arith, square P T L z.target))
 
@@ -55,12 +55,12 @@ module _ (P : Penalties) (T L i j n : ℕ) where
   unfolding width_price
   width_last a e m = (simp (le-ltb T L a, eq-eqb j n e, ne_eqb j (i + 1) m), omega arith)
 
-  pub width_short : {f s : ℕ} → Sized P T L i → L ≤ T → j ≡ n → j ≡ i + 1 → f ≡ P.fraction → L * f < T → s ≡ P.short
+  pub width_short : {f s : ℕ} → Small P → L ≤ T → j ≡ n → j ≡ i + 1 → f ≡ P.fraction → L * f < T → s ≡ P.short
       → (s ≡ width_price P T L i j n) × (s ≤ 1000000 * 2 ^ 30)
   unfolding width_price
   width_short z a e o x b y =
       let b' : L * P.fraction < T = rw x at b in
-      rw y (simp (le-ltb T L a, eq-eqb j n e, eq-eqb j (i + 1) o, lt-ltb (L * P.fraction) T b'), omega (arith, z.small.last))
+      rw y (simp (le-ltb T L a, eq-eqb j n e, eq-eqb j (i + 1) o, lt-ltb (L * P.fraction) T b'), omega (arith, z.last))
 
   pub width_long : {f : ℕ} → L ≤ T → j ≡ n → j ≡ i + 1 → f ≡ P.fraction → T ≤ L * f → (0 ≡ width_price P T L i j n) × (0 ≤ 1000000 * 2 ^ 30)
   unfolding width_price
@@ -85,9 +85,9 @@ module _ (P : Penalties) (T L h i j n : ℕ) where
 
 -- ---- whether a search goes on
 
-module _ (P : Penalties) (widest L penalty cost best : ℕ) (z : Weighable P widest L penalty cost best) {bar o : ℕ} (eb : bar ≡ max widest penalty) (eo : o ≡ P.overflow) where
+module _ (P : Penalties) (widest L penalty cost best : ℕ) (s : Small P) (z : Weighable widest L cost best) {bar o : ℕ} (eb : bar ≡ max widest penalty) (eo : o ≡ P.overflow) where
   weighed : o * (L - bar) ≤ 1000000 * 2 ^ 30
-  weighed = rw eo (over P bar L z.small z.len)
+  weighed = rw eo (over P bar L s z.len)
 
   pub weigh_over : Fits w64 (o * (L - bar))
   weigh_over = record { fits = omega (arith, weighed) }
@@ -98,14 +98,14 @@ module _ (P : Penalties) (widest L penalty cost best : ℕ) (z : Weighable P wid
 squares : (n : ℕ) → n ≤ 65535 → n * n ≤ 65535 * 65535
 squares n l = product n n 65535 65535 l l
 
-pub weigh_square : {P : Penalties} {widest L penalty cost best : ℕ} → Weighable P widest L penalty cost best → Fits w64 (widest * widest)
-weigh_square {P} {widest} z = record { fits = omega (arith, squares widest z.most) }
+pub weigh_square : {widest L cost best : ℕ} → Weighable widest L cost best → Fits w64 (widest * widest)
+weigh_square {widest} z = record { fits = omega (arith, squares widest z.most) }
 
-pub weigh_best : {P : Penalties} {widest L penalty cost best : ℕ} → Weighable P widest L penalty cost best → Fits w64 (best + widest * widest)
-weigh_best {P} {widest} z = record { fits = omega (arith, squares widest z.most, z.low) }
+pub weigh_best : {widest L cost best : ℕ} → Weighable widest L cost best → Fits w64 (best + widest * widest)
+weigh_best {widest} z = record { fits = omega (arith, squares widest z.most, z.low) }
 
-pub weigh_all : {P : Penalties} {widest L penalty cost best e : ℕ} → Weighable P widest L penalty cost best → e ≡ ending_price P penalty → Fits w64 (best + widest * widest + e)
-weigh_all {P} {widest} {L} {penalty} z q = record { fits = omega (arith, squares widest z.most, z.low, ending_cap P penalty z.small) }
+pub weigh_all : {P : Penalties} {widest L cost best e : ℕ} (penalty : ℕ) → Small P → Weighable widest L cost best → e ≡ ending_price P penalty → Fits w64 (best + widest * widest + e)
+weigh_all {P} {widest} penalty s z q = record { fits = omega (arith, squares widest z.most, z.low, ending_cap P penalty s) }
 
 pub hopeless_true : {P : Penalties} {widest L penalty cost best bar o e : ℕ} → bar ≡ max widest penalty → bar < L → o ≡ P.overflow → e ≡ ending_price P penalty
     → ltb (best + widest * widest + e) (cost + o * (L - bar)) ≡ true → Hopeless P widest L penalty cost best

@@ -15,7 +15,7 @@ use Rattle.cheapest.specs.Least.{Cheapest}
 use Rattle.cheapest.specs.Table.{at}
 use Rattle.least_cost.specs.declared.Penalties.{Penalties}
 use Rattle.least_cost.specs.Price.{line_len, width_price, ending_price, line_price, price_at}
-use Rattle.least_cost.specs.Search.{Priceable, Weighable, Hopeless, Ready, start_price}
+use Rattle.least_cost.specs.Search.{Even, Priceable, Weighable, Hopeless, Ready, start_price}
 use Rattle.least_cost.proofs.Lengths.{len_one, len_more, len_grows, len_split}
 
 -- No price is below its overflow.
@@ -45,6 +45,7 @@ module _ (w s p : List ℕ) (P : Penalties) (T C : List ℕ) (widest j : ℕ) wh
   -- The last penalty width is `tail`.
   pub record Pulled (tail len best from i : ℕ) : Type 0 where
     pub ready : Ready w s p P T widest C j
+    pub even : Even w s p
     pub last : tail ≡ get_or p (j - 1) 0
     pub below : i < j
     pub chosen_low : i ≤ from
@@ -62,27 +63,27 @@ module _ (w s p : List ℕ) (P : Penalties) (T C : List ℕ) (widest j : ℕ) wh
   found i L h r el eh er = er ∙ rw (el, eh)
 
   -- A start before j can be priced.
-  pub start_ready : {L i : ℕ} → Ready w s p P T widest C j → L ≤ 2 ^ 30 → i < j → Priceable P T C L i
-  start_ready {L} {i} ready l b = record {
+  pub start_ready : {L i : ℕ} → Even w s p → Ready w s p P T widest C j → L ≤ 2 ^ 30 → i < j → Priceable T C L i
+  start_ready {L} {i} even ready l b = record {
     sized = record {
-      small = ready.small;
       target = omega (arith, ready.narrow i b, ready.most);
       len = l;
-      from = omega (arith, ready.within, ready.even.few);
+      from = omega (arith, ready.within, even.few);
     };
     room = omega (arith, ready.room);
     cheap = ready.cheap i b;
   }
 
   -- The last start alone.
-  pub pulled_start : {a r h : ℕ} → Ready w s p P T widest C j → a ≡ get_or w (j - 1) 0 + get_or p (j - 1) 0 → a ≤ 131070 → r ≡ at C (j - 1) + line_price P (at T (j - 1)) a h (j - 1) j (length w) → r ≤ 2 ^ 51 → h ≡ get_or p (j - 1) 0
+  pub pulled_start : {a r h : ℕ} → Even w s p → Ready w s p P T widest C j → a ≡ get_or w (j - 1) 0 + get_or p (j - 1) 0 → a ≤ 131070 → r ≡ at C (j - 1) + line_price P (at T (j - 1)) a h (j - 1) j (length w) → r ≤ 2 ^ 51 → h ≡ get_or p (j - 1) 0
       → Pulled h a r (j - 1) (j - 1)
-  pulled_start {a} {r} {h} ready ea la er lr eh =
+  pulled_start {a} {r} {h} even ready ea la er lr eh =
       let z : suc (j - 1) ≡ j = omega (arith, ready.above) in
-      let l : a ≡ line_len w s p (j - 1) j = ea ∙ sym (rw z at (len_one w s p ready.even (j - 1) (omega (arith, ready.within)))) in
+      let l : a ≡ line_len w s p (j - 1) j = ea ∙ sym (rw z at (len_one w s p even (j - 1) (omega (arith, ready.within)))) in
       let f = found (j - 1) a h r l eh er in
       record {
         ready = ready;
+        even = even;
         last = eh;
         below = omega arith;
         chosen_low = omega arith;
@@ -100,10 +101,10 @@ module _ (w s p : List ℕ) (P : Penalties) (T C : List ℕ) (widest j : ℕ) wh
     longer : len + a ≡ line_len w s p (i - 1) j
     longer =
         let z : suc (i - 1) ≡ i = omega arith in
-        omega (arith, h.wide, rw z at (len_more w s p h.ready.even (i - 1) j (omega (arith, h.below)) h.ready.within))
+        omega (arith, h.wide, rw z at (len_more w s p h.even (i - 1) j (omega (arith, h.below)) h.ready.within))
 
     pub pulled_fits : len + a ≤ 2 ^ 30
-    pulled_fits = omega (arith, h.cap, h.below, h.ready.within, h.ready.even.few)
+    pulled_fits = omega (arith, h.cap, h.below, h.ready.within, h.even.few)
 
     -- Each start from i - 1 on is i - 1 itself, or was there before.
     lower : (Q : ℕ → Type 0) → Q (i - 1) → ((k : ℕ) → i ≤ k → Q k) → (k : ℕ) → i - 1 ≤ k → Q k
@@ -119,6 +120,7 @@ module _ (w s p : List ℕ) (P : Penalties) (T C : List ℕ) (widest j : ℕ) wh
         let f = found (i - 1) (len + a) tail r longer h.last er in
         record {
           ready = h.ready;
+          even = h.even;
           last = h.last;
           below = omega (arith, h.below);
           chosen_low = omega arith;
@@ -137,6 +139,7 @@ module _ (w s p : List ℕ) (P : Penalties) (T C : List ℕ) (widest j : ℕ) wh
         let f = found (i - 1) (len + a) tail r longer h.last er in
         record {
           ready = h.ready;
+          even = h.even;
           last = h.last;
           below = omega (arith, h.below);
           chosen_low = omega (arith, h.chosen_low);
@@ -149,12 +152,10 @@ module _ (w s p : List ℕ) (P : Penalties) (T C : List ℕ) (widest j : ℕ) wh
           first = lower (λ k. k < from → best < start_price w s p P T C j k) (λ b. omega arith) (λ k b m. h.first k b m);
         }
 
-  pub pulled_weigh : {tail len best from i t : ℕ} → Pulled tail len best from i → t ≤ 65535 → Weighable P widest len t (at C i) best
-  pulled_weigh {tail} {len} {best} {from} {i} h l = record {
-    small = h.ready.small;
+  pub pulled_weigh : {tail len best from i : ℕ} → Pulled tail len best from i → Weighable widest len (at C i) best
+  pulled_weigh {tail} {len} {best} {from} {i} h = record {
     most = h.ready.most;
-    len = omega (arith, h.cap, h.below, h.ready.within, h.ready.even.few);
-    tail = l;
+    len = omega (arith, h.cap, h.below, h.ready.within, h.even.few);
     cheap = h.ready.cheap i h.below;
     low = h.small;
   }
@@ -173,8 +174,8 @@ module _ (w s p : List ℕ) (P : Penalties) (T C : List ℕ) (widest j : ℕ) wh
         let ends : ending_price P (get_or p (i - 1) 0) ≡ e = ap (λ (x : ℕ). ending_price P x) (sym et) in
         let up_to = h.ready.least i k b h.below in
         let narrow = h.ready.narrow k (omega (arith, h.below)) in
-        let split = len_split w s p h.ready.even k i j b h.below h.ready.within in
-        let grows = len_grows w s p h.ready.even k i j (omega arith) h.below h.ready.within in
+        let split = len_split w s p h.even k i j b h.below h.ready.within in
+        let grows = len_grows w s p h.even k i j (omega arith) h.below h.ready.within in
         both (ltb (at T k) Lki)
         (λ c.
         let l = ltb-true (at T k) Lki c in

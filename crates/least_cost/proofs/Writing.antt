@@ -1,10 +1,10 @@
 -- The ends as they are written, from the last to the first: what stands there and the ends still to come are all of them.
 use mathlib.Core.Path.{◌≡◌, refl, sym, ap, ◌∙◌}
-use mathlib.Core.List.{List}
+use mathlib.Core.List.{List, ◌++◌}
 use Prim.Native.Nat.{ℕ, zero, suc, ◌+◌, ◌-◌, ◌≤◌, ◌<◌}
 use native.Mathlib.Omega.{arith}
-use lib.ListN.{length, set, replicate, length-set, length-replicate, replicate-append-replicate}
-use lib.Seq.{sets}
+use lib.ListN.{length, set, take, drop, replicate, length-set, length-replicate}
+use lib.Seq.{sets, sets-eq, length-take-le}
 use Rattle.cheapest.specs.Lines.{Falls, line_of, ends_of}
 use Rattle.cheapest.specs.Table.{at}
 use Rattle.cheapest.proofs.Lines.{line_next, line_le, line_zero, ends_zero, ends_next, ends_length}
@@ -80,6 +80,15 @@ module _ (S : List ℕ) (n : ℕ) where
     long = refl;
   }
 
+  -- Where there is a line still to be written its end is not 0, and where there is none it is.
+  pub writing_more : {E₀ E : List ℕ} {line end : ℕ} → Writing S n E₀ E line end → 0 < line → 0 < end
+  writing_more {end = zero} h l = absurd (omega (arith, h.count, line_zero (at S)))
+  writing_more {end = suc e} h l = omega arith
+
+  pub writing_over : {E₀ E : List ℕ} {line end : ℕ} → Writing S n E₀ E line end → line ≤ 0 → end ≤ 0
+  writing_over {end = zero} h l = omega arith
+  writing_over {end = suc e} h l = absurd (omega (arith, h.count, line_next (at S) (suc e) (λ k z m. h.falls k z (omega (arith, h.to))) (omega arith)))
+
   module _ {E₀ E : List ℕ} {line end : ℕ} (h : Writing S n E₀ E line end) (up : 0 < end) where
     here : Falls (at S) end
     here k z l = h.falls k z (omega (arith, h.to))
@@ -121,26 +130,13 @@ module _ (S : List ℕ) (n : ℕ) where
       let t : sets E 0 (ends_of (at S) 0) ≡ sets E₀ 0 (ends_of (at S) n) = rw y at h.same in
       rw (lines_some (at S) n u) (omega (arith, ends_length (at S) n), rw ends_zero at t)
 
-pub ruleset writing = (writing_start, writing_line, writing_place, writing_less, writing_step)
+pub ruleset writing = (writing_start, writing_more, writing_over, writing_line, writing_place, writing_less, writing_step)
 
--- ---- the scratch set to zero, one place after the other
+-- ---- the scratch set to zero
 
-pub record Cleared (l₀ : List ℕ) (l : List ℕ) (k : ℕ) : Type 0 where
-  pub same : l ≡ sets l₀ 0 (replicate k 0)
-  pub long : length l ≡ length l₀
-
-pub cleared_start : (l : List ℕ) → Cleared l l 0
-cleared_start l = record { same = refl; long = refl }
-
-pub cleared_step : {l₀ l : List ℕ} {k : ℕ} → Cleared l₀ l k → Cleared l₀ (set l k 0) (k + 1)
-cleared_step {l₀} {l} {k} c = record {
-  same =
-      rw c.same
-      (sets_snoc l₀ (replicate k 0) k 0 (sym (length-replicate k 0)) ∙ ap (λ (r : List ℕ). sets l₀ 0 r) (replicate-append-replicate k 1 0));
-  long = length-set l k 0 ∙ c.long;
-}
-
-pub cleared_end : {l₀ l : List ℕ} {k : ℕ} (n : ℕ) → Cleared l₀ l k → k ≡ n + 1 → l ≡ sets l₀ 0 (replicate (n + 1) 0)
-cleared_end n c e = rw (← e) c.same
-
-pub ruleset clearing = (cleared_start, cleared_step, cleared_end)
+pub filled : {r : List ℕ} (n : ℕ) (l : List ℕ) → n < length l → r ≡ replicate (length (take (n + 1) l)) 0 → r ++ drop (n + 1) l ≡ sets l 0 (replicate (n + 1) 0)
+filled n l h e =
+    let k : length (take (n + 1) l) ≡ n + 1 = length-take-le (n + 1) l (omega arith) in
+    let m : length (replicate {A = ℕ} (n + 1) 0) ≡ n + 1 = length-replicate (n + 1) 0 in
+    let z : 0 + (n + 1) ≡ n + 1 = omega arith in
+    rw (e, k) (sym (sets-eq (replicate (n + 1) 0) l 0 (omega (arith, m)) ∙ rw (m, z)))

@@ -37,20 +37,15 @@ fn in_line(b: u8) -> bool
 }
 
 // The end of the input line that starts at `from`: its newline, or the end of the text.
+#[tactic(auto, unfolding(crate::specs::Lines::line_end))]
 pub fn line_end(text: &[u8], from: usize) -> usize
     ensures { result ≡ line_end text.now from }
 {
-    let mut at = from;
-    while at < text.len() {
-        if !in_line(text[at]) {
-            return at;
-        }
-        at += 1;
-    }
-    at
+    runs::run_end(text, from, in_line)
 }
 
 // Where the body of the input line that starts at `from` and ends at `end` ends.
+#[tactic(auto, unfolding(crate::specs::Lines::body_end))]
 pub fn body_end(text: &[u8], from: usize, end: usize) -> usize
     requires { end ≡ line_end text.now from }
     ensures { result ≡ body_end text.now from }
@@ -59,13 +54,11 @@ pub fn body_end(text: &[u8], from: usize, end: usize) -> usize
 }
 
 // Whether a place lies in the body of its input line.
+#[tactic(auto, using(crate::proofs::Bodies::bodies))]
 pub fn in_body(text: &[u8], at: usize) -> bool
     ensures { result ≡ in_body text.now at }
 {
-    if at < text.len() {
-        return in_line(text[at]);
-    }
-    false
+    text.get(at).is_some_and(|b| in_line(*b))
 }
 
 // The word that starts at a place of a line that is UTF-8 from there on.

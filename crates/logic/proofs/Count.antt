@@ -9,7 +9,6 @@ use native.Mathlib.Numerals.{add-one}
 use native.Mathlib.Omega.{arith}
 use lib.ListN.{length, get_or, take, drop, length-drop, drop_of_length-le}
 use lib.Seq.{drop-cons, get_or-drop}
-use borrow.Author.Tests.{not-true, not-false}
 use Rattle.logic.specs.Count.{count}
 use Rattle.logic.specs.Member.{◌∈◌}
 use Rattle.logic.proofs.Choice.{both, pick_le}
@@ -64,8 +63,6 @@ count_none p t i l e = rw (drop-cons t i 0 l, e)
 pub count_some : (p : ℕ → Bool) (t : List ℕ) (i : ℕ) → i < length t → p (get_or t i 0) ≡ true → 0 < count p (drop i t)
 unfolding count
 count_some p t i l e = rw (drop-cons t i 0 l, e) (omega arith)
-
-pub ruleset counting = (counting_start, counting_step, counting_stop, counting_end, not-true, not-false)
 
 -- ---- what is counted
 

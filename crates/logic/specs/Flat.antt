@@ -1,10 +1,6 @@
 -- Numbers of a list as they lie in memory, each by the elements that it takes, one after the other.
-use Rattle.std.specs.Prelude.{ℕ, List, [], ◌∷◌, ◌++◌}
+use Rattle.std.specs.Prelude.{List, [], ◌∷◌, ◌++◌}
 
-abbrev pub flat : (ℕ → List ℕ) → List ℕ → List ℕ
+abbrev pub flat : {N A : Type 0} → (N → List A) → List N → List A
 flat one [] = []
 flat one (v ∷ vs) = one v ++ flat one vs
-
--- A number that is an element by itself.
-abbrev pub alone : ℕ → List ℕ
-alone v = v ∷ []

@@ -12,7 +12,7 @@ ghost use Rattle.measure.specs.Escapes.{columns, next, in_text, taken};
 ghost use Rattle.measure.specs.Measure.{passed_of, measure_of, answer_of};
 ghost use Rattle.measure.specs.Walk.{Passes, Steps, plain};
 
-use chars::Read;
+use limits::TextRefusal;
 use units::{Answer, Columns, Offset, TEXT_MOST};
 
 const BEL: u32 = 0x07;
@@ -47,28 +47,15 @@ pub enum Mode {
     OscEsc,
 }
 
-// The columns passed and the place that was come to; or the place where no character starts.
-#[derive(Clone, Copy)]
-pub enum Passed {
-    To(Columns, Offset),
-    Fault(Offset),
-}
-
-// A text's columns; or its length, where it is too long; or its first fault.
-#[derive(Clone, Copy)]
-pub enum Measured {
-    Width(Columns),
-    TooLong(Offset),
-    NotUtf8(Offset),
-}
-
 // The columns of a character.
+#[tactic(auto, using(logic::proofs::Choice::picks), unfolding(crate::specs::Escapes::columns))]
 pub fn ch_width(c: u32) -> usize
     ensures { result ≡ columns c }
 {
     if c < DOUBLE_WIDTH_CUTOFF { 1 } else { 2 }
 }
 
+#[tactic(auto, using(crate::proofs::Cases::text_of), unfolding(crate::specs::Escapes::in_text))]
 fn is_text(m: Mode) -> bool
     ensures { result ≡ in_text m }
 {
@@ -137,6 +124,7 @@ pub fn columns_taken(m: Mode, c: u32) -> usize
 }
 
 // A byte that is a character of one column by itself: below 80, no ESC, and not `stop`.
+#[tactic(auto, unfolding(crate::specs::Walk::plain))]
 fn is_plain(b: u8, stop: u32) -> bool
     ensures { result ≡ plain stop b }
 {
@@ -148,59 +136,56 @@ fn is_plain(b: u8, stop: u32) -> bool
 fn plain_end(text: &[u8], from: usize, stop: u32) -> usize
     ensures { result ≡ from + count (plain stop) (drop from text.now) }
 {
-    let mut at = from;
-    while at < text.len() {
-        if !is_plain(text[at], stop) {
-            return at;
-        }
-        at += 1;
-    }
-    at
+    runs::run_end(text, from, |b| is_plain(b, stop))
 }
 
 // Passes the rest of an escape, `from` standing directly after its ESC: to where it ends, or before
 // `stop`, or to the end of the text.
-fn skip_ansi_escape_sequence(text: &[u8], from: Offset, stop: u32) -> Passed
+fn skip_ansi_escape_sequence(
+    text: &[u8],
+    from: Offset,
+    stop: u32,
+) -> Result<(Columns, Offset), Offset>
     ensures { Passes stop text.now from.0 Mode.Esc result }
 {
     let mut at = from;
     let mut mode = Mode::Esc;
     while at.0 < text.len() {
-        let Read::Char(c, after) = chars::read_char(text, at) else {
-            return Passed::Fault(at);
+        let Ok((c, after)) = chars::read_char(text, at) else {
+            return Err(at);
         };
         if c == stop {
-            return Passed::To(Columns(0), at);
+            return Ok((Columns(0), at));
         }
         mode = next_mode(mode, c);
         at = after;
         if is_text(mode) {
-            return Passed::To(Columns(0), at);
+            return Ok((Columns(0), at));
         }
     }
-    Passed::To(Columns(0), at)
+    Ok((Columns(0), at))
 }
 
 // Passes one character of plain text, or one whole escape, or nothing where `stop` stands.
-fn step(text: &[u8], at: Offset, stop: u32) -> Passed
+fn step(text: &[u8], at: Offset, stop: u32) -> Result<(Columns, Offset), Offset>
     requires { at.0 < length text.now }
     ensures { Steps stop text.now at.0 result }
 {
-    let Read::Char(c, after) = chars::read_char(text, at) else {
-        return Passed::Fault(at);
+    let Ok((c, after)) = chars::read_char(text, at) else {
+        return Err(at);
     };
     if c == stop {
-        return Passed::To(Columns(0), at);
+        return Ok((Columns(0), at));
     }
     if c == ESC {
         return skip_ansi_escape_sequence(text, after, stop);
     }
-    Passed::To(Columns(ch_width(c)), after)
+    Ok((Columns(ch_width(c)), after))
 }
 
 // The columns of the characters from a place up to the first that is `stop`, or else to the end of the
 // text, and the place of that; or the fault that is met before. A run of plain bytes is passed at once.
-pub fn columns_until(text: &[u8], from: Offset, stop: u32) -> Passed
+pub fn columns_until(text: &[u8], from: Offset, stop: u32) -> Result<(Columns, Offset), Offset>
     ensures { result ≡ passed_of stop text.now from.0 }
 {
     let mut at = from;
@@ -213,44 +198,37 @@ pub fn columns_until(text: &[u8], from: Offset, stop: u32) -> Passed
             cols = Columns(sum);
             at = Offset(end);
         } else {
-            match step(text, at, stop) {
-                Passed::To(more, after) => {
-                    if after.0 == at.0 {
-                        return Passed::To(cols, at);
-                    }
-                    let sum = cols.0 + more.0;
-                    cols = Columns(sum);
-                    at = after;
-                }
-                Passed::Fault(fault) => {
-                    return Passed::Fault(fault);
-                }
+            let (more, after) = step(text, at, stop)?;
+            if after.0 == at.0 {
+                return Ok((cols, at));
             }
+            let sum = cols.0 + more.0;
+            cols = Columns(sum);
+            at = after;
         }
     }
-    Passed::To(cols, at)
+    Ok((cols, at))
 }
 
 // The columns of a text, in one pass with the test that it is UTF-8.
-pub fn display_width(text: &[u8]) -> Measured
+#[tactic(auto, using(crate::proofs::Walk::measuring))]
+pub fn display_width(text: &[u8]) -> Result<Columns, TextRefusal>
     ensures { result ≡ measure_of text.now }
 {
     if TEXT_MOST < text.len() {
-        return Measured::TooLong(Offset(text.len()));
+        return Err(TextRefusal::TooLong(Offset(text.len())));
     }
-    match columns_until(text, Offset(0), NO_STOP) {
-        Passed::To(cols, _) => Measured::Width(cols),
-        Passed::Fault(at) => Measured::NotUtf8(at),
-    }
+    let (cols, _) = columns_until(text, Offset(0), NO_STOP).map_err(TextRefusal::NotUtf8)?;
+    Ok(cols)
 }
 
 // The numbers of document 01 for what measuring answers.
-pub fn answer_of(m: Measured) -> Answer
+#[tactic(auto, using(crate::proofs::Cases::answer_of_lem), unfolding(crate::specs::Measure::answer_of))]
+pub fn answer_of(m: Result<Columns, TextRefusal>) -> Answer
     ensures { result ≡ answer_of m }
 {
     match m {
-        Measured::Width(cols) => units::done(cols.0),
-        Measured::TooLong(length) => units::refused(1, length.0),
-        Measured::NotUtf8(at) => units::refused(2, at.0),
+        Ok(cols) => units::done(cols.0),
+        Err(why) => Answer::from(why),
     }
 }

@@ -7,6 +7,7 @@ ghost use Rattle.std.specs.Prelude.{◌≡◌};
 ghost use Rattle.parting.specs.Parting.{goes_on, parts_at};
 
 // Whether a byte may stand in the place of another: it is the same, or a newline in the place of a space.
+#[tactic(auto, unfolding(crate::specs::Parting::goes_on))]
 fn goes_on(before: u8, after: u8) -> bool
     ensures { result ≡ goes_on before after }
 {
@@ -23,15 +24,9 @@ fn goes_on(before: u8, after: u8) -> bool
 pub fn parts_at(before: &[u8], after: &[u8]) -> usize
     ensures { result ≡ parts_at before.now after.now }
 {
-    let mut at = 0;
-    while at < before.len() {
-        if after.len() <= at {
-            return at;
-        }
-        if !goes_on(before[at], after[at]) {
-            return at;
-        }
-        at += 1;
-    }
-    at
+    before
+        .iter()
+        .zip(after)
+        .take_while(|pair| goes_on(*pair.0, *pair.1))
+        .count()
 }

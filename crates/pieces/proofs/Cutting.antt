@@ -10,8 +10,6 @@ use lib.ListN.{length}
 use borrow.Author.Tests.{eq-eqb}
 use Rattle.units.specs.declared.Offset.{Offset}
 use Rattle.units.specs.declared.Columns.{Columns}
-use Rattle.chars.specs.declared.Read.{Read}
-use Rattle.chars.specs.declared.Read.TheVariants as read
 use Rattle.chars.specs.Utf8.{Chr, read_at, bytes}
 use Rattle.chars.proofs.Laws.{Stepped, step_fault, decode_end}
 use Rattle.measure.specs.declared.Mode.{Mode}
@@ -22,6 +20,7 @@ use Rattle.measure.specs.Walk.{ahead}
 use Rattle.measure.proofs.Walk.{here, ahead_char, taken_most}
 use Rattle.pieces.specs.Pieces.{starts, fitting, piece}
 use Rattle.pieces.specs.Steps.{cut_at}
+use Rattle.std.specs.Prelude.{Err, Ok, Result}
 
 -- What the current piece still takes at a place.
 abbrev still : ℕ → ℕ → List ℕ → ℕ → ℕ → Mode → List Chr
@@ -47,7 +46,7 @@ cutting_ends {stop} {w} {s} {from} {at} {cols} {m} k e =
     rw (b, c)
 
 module _ {stop w : ℕ} {s : List ℕ} {from : ℕ} {at : Offset} {cols : Columns} {m : Mode} (k : Cutting stop w s from at.0 cols.0 m) where
-  pub cutting_step : {c t : ℕ} {n : Mode} {r : Read} {o : Offset} {b : Bool} → r ≡ read.Char c o → r ≡ read_at s at.0 → (c ≡ stop → ⊥) → t ≡ taken m c → b ≡ starts w cols.0 (cols.0 + t) → b ≡ false
+  pub cutting_step : {c t : ℕ} {n : Mode} {r : Result (ℕ × Offset) Offset} {o : Offset} {b : Bool} → r ≡ Ok (c, o) → r ≡ read_at s at.0 → (c ≡ stop → ⊥) → t ≡ taken m c → b ≡ starts w cols.0 (cols.0 + t) → b ≡ false
       → n ≡ next m c → Cutting stop w s from o.0 (cols.0 + t) n
   unfolding fitting bytes width_from
   cutting_step {c} {t} {n} {r} {o} {b} p e q et eb f en =
@@ -64,7 +63,7 @@ module _ {stop w : ℕ} {s : List ℕ} {from : ℕ} {at : Offset} {cols : Column
         room = omega (arith, k.room);
       })
 
-  pub cutting_new : {c t : ℕ} {r : Read} {o : Offset} {b : Bool} → r ≡ read.Char c o → r ≡ read_at s at.0 → (c ≡ stop → ⊥) → t ≡ taken m c → b ≡ starts w cols.0 (cols.0 + t) → b ≡ true
+  pub cutting_new : {c t : ℕ} {r : Result (ℕ × Offset) Offset} {o : Offset} {b : Bool} → r ≡ Ok (c, o) → r ≡ read_at s at.0 → (c ≡ stop → ⊥) → t ≡ taken m c → b ≡ starts w cols.0 (cols.0 + t) → b ≡ true
       → record { end = at; width = cols } ≡ cut_at stop w s from
   unfolding fitting
   cutting_new {c} {t} {r} {o} {b} p e q et eb f =
@@ -72,14 +71,14 @@ module _ {stop w : ℕ} {s : List ℕ} {from : ℕ} {at : Offset} {cols : Column
       let h : starts w cols.0 (cols.0 + taken m c) ≡ true = rw (← et, ← eb) f in
       cutting_ends k (rw (ahead_char stop d q, h))
 
-  pub cutting_stop : {c : ℕ} {r : Read} {o : Offset} → r ≡ read.Char c o → r ≡ read_at s at.0 → c ≡ stop → record { end = at; width = cols } ≡ cut_at stop w s from
+  pub cutting_stop : {c : ℕ} {r : Result (ℕ × Offset) Offset} {o : Offset} → r ≡ Ok (c, o) → r ≡ read_at s at.0 → c ≡ stop → record { end = at; width = cols } ≡ cut_at stop w s from
   unfolding fitting until
   cutting_stop {c} {r} {o} p e q = let d : Stepped s at.0 c o = here p e in cutting_ends k (rw (d.chars, eq-eqb c stop q))
 
-  pub cutting_fault : {r : Read} {o : Offset} → r ≡ read.Fault o → r ≡ read_at s at.0 → record { end = at; width = cols } ≡ cut_at stop w s from
+  pub cutting_fault : {r : Result (ℕ × Offset) Offset} {o : Offset} → r ≡ Err o → r ≡ read_at s at.0 → record { end = at; width = cols } ≡ cut_at stop w s from
   unfolding fitting until
   cutting_fault {r} {o} p e =
-      let e' : read.Fault o ≡ read_at s at.0 = cc in
+      let e' : Err o ≡ read_at s at.0 = cc in
       let d = (step_fault s at.0 e').1 in
       cutting_ends k (rw d)
 
@@ -88,10 +87,10 @@ module _ {stop w : ℕ} {s : List ℕ} {from : ℕ} {at : Offset} {cols : Column
   cutting_end l = cutting_ends k (rw (decode_end s at.0 l))
 
   -- The sum of columns fits: a text has fewer than 2^63 bytes, and at most two columns a byte.
-  pub cutting_room : (c : ℕ) {t : ℕ} → length s * 1 < 2 ^ 63 → at.0 < length s → t ≡ taken m c → Fits w64 (cols.0 + t)
-  cutting_room c h l e = omega (arith, k.room, k.inside, taken_most m c)
+  pub cutting_room : {c t : ℕ} {r : Result (ℕ × Offset) Offset} {o : Offset} → length s * 1 < 2 ^ 63 → r ≡ Ok (c, o) → r ≡ read_at s at.0 → t ≡ taken m c → Fits w64 (cols.0 + t)
+  cutting_room {c} h p e q = let d : Stepped s at.0 c _ = here p e in omega (arith, k.room, d.later, d.inside, taken_most m c)
 
-pub cutting_less : (s : List ℕ) {at c : ℕ} {r : Read} {o : Offset} → at < length s → r ≡ read.Char c o → r ≡ read_at s at → length s - o.0 < length s - at
-cutting_less s {at} {c} {r} {o} l p e = let d : Stepped s at c o = here p e in omega (arith, d.later, d.inside)
+pub cutting_less : (s : List ℕ) (at : ℕ) {c : ℕ} {r : Result (ℕ × Offset) Offset} {o : Offset} → r ≡ Ok (c, o) → r ≡ read_at s at → length s - o.0 < length s - at
+cutting_less s at {c} {r} {o} p e = let d : Stepped s at c o = here p e in omega (arith, d.later, d.inside)
 
 pub ruleset cutting = (cutting_start, cutting_step, cutting_new, cutting_stop, cutting_fault, cutting_end, cutting_room, cutting_less)

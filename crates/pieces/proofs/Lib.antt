@@ -1,4 +1,3 @@
-pub mod Cases
 pub mod Cutting
 pub mod Parting
 pub mod Fitting

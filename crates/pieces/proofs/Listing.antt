@@ -1,5 +1,5 @@
 -- The loops of `count_pieces` and `write_pieces`, and what `list_pieces` answers: one law for each way through them.
-use mathlib.Core.Path.{◌≡◌, sym, ap, ◌∙◌}
+use mathlib.Core.Path.{◌≡◌, ap, ◌∙◌}
 use mathlib.Core.List.{List, [], ◌∷◌}
 use Prim.Native.Nat.{ℕ, ◌+◌, ◌-◌, ◌*◌, ◌^◌, ◌≤◌, ◌<◌}
 use native.Mathlib.Omega.{arith}
@@ -7,32 +7,29 @@ use mir.Syntax.{w64}
 use mir.Val.{Fits}
 use lib.Dec.{eqb}
 use lib.ListN.{length, take, drop, length-drop, length-take, length-append}
-use lib.Seq.{sets}
 use borrow.Author.Tests.{lt-ltb, le-ltb}
-use Rattle.units.specs.declared.Offset.{Offset}
-use Rattle.units.specs.Limits.{text_most, width_most}
-use Rattle.logic.specs.Flat.{alone}
+use Rattle.units.specs.Limits.{text_most}
 use Rattle.logic.proofs.Choice.{both}
-use Rattle.chars.specs.declared.Checked.{Checked}
-use Rattle.chars.specs.declared.Checked.TheVariants as utf8
-use Rattle.chars.specs.Utf8.{Chr, decode, first_fault, Whole, checked}
+use Rattle.chars.specs.Utf8.{Chr, decode, Whole}
 use Rattle.chars.proofs.Laws.{chars_most}
-use Rattle.chars.proofs.Reading.{checked_whole, checked_fault}
 use Rattle.measure.specs.declared.Mode.TheVariants.{Text}
 use Rattle.measure.specs.Measure.{until}
 use Rattle.measure.specs.Walk.{ahead}
 use Rattle.measure.proofs.Laws.{width_most_lem}
 use Rattle.words.specs.declared.Word.{Word}
-use Rattle.words.specs.Lists.{start_of, end_of, white_of, width_of_word, Small, PutAt, Room}
-use Rattle.words.proofs.Storing.{Writing, writing_start, writing_put, writing_step, Written, writing_end}
-use Rattle.words.proofs.Finding.{find_room, find_whole}
-use Rattle.pieces.specs.declared.Broken.TheVariants.{Pieces, TooLong, NotUtf8, TooWide, NoRoom}
+use Rattle.words.specs.declared.WordLists.{WordLists}
+use Rattle.words.specs.Lists.{start_of, end_of, white_of, width_of_word, Small, PutAt, Same, room}
+use Rattle.words.proofs.Storing.{Writing, After, writing_start, writing_put, writing_step, Written, writing_end}
+use Rattle.wire.specs.Cells.{CellLaws}
 use Rattle.pieces.specs.Pieces.{piece, trimmed}
-use Rattle.pieces.specs.Lists.{broken_of, pieces_by}
+use Rattle.limits.specs.Limits.{listed_in}
+use Rattle.pieces.specs.Lists.{pieces_by}
 use Rattle.pieces.specs.Steps.{Way, one_word, all_words, step_piece, after_step, step_pieces}
 use Rattle.pieces.proofs.Fitting.{leaving, fitting_leaving}
 use Rattle.pieces.proofs.Stepping.{Place, goes, place_start, way_inside, step_next, step_none, after_is, start_is}
 use Rattle.pieces.proofs.Same.{same_by}
+use Rattle.std.specs.Prelude.{Err, Ok}
+use Rattle.limits.specs.declared.TextRefusal.TheVariants.{NoRoom}
 
 -- ---- the loop of `count_pieces`
 
@@ -70,15 +67,13 @@ pub ruleset counting = (counted_start, counted_step, counted_less, counted_fits,
 
 -- ---- the loop of `write_pieces`
 
--- At a piece's start, the lists filled up to `place`.
-pub record Putting (one : ℕ → List ℕ) (stop last w : ℕ) (s : List ℕ) (at place : ℕ) (a b c d a₀ b₀ c₀ d₀ : List ℕ) : Type 0 where
+-- At the start of a piece, before which there are k.
+pub record Putting {A : Type 0} (stored : List ℕ → List A) (size stop last w : ℕ) (s : List ℕ) (at k : ℕ) (l l₀ : WordLists A) : Type 0 where
   pub way : Way stop last s
   pub here : Place last s at
   pub inside : at ≤ length s
-  pub writes : Writing one (pieces_by stop s w) (step_pieces stop last w s at) place a b c d a₀ b₀ c₀ d₀
-
-pub putting_start : {stop last : ℕ} {s : List ℕ} (w : ℕ) {a b c d : List ℕ} → Way stop last s → Whole s → Room (length (pieces_by stop s w)) a b c d → Putting alone stop last w s 0 0 a b c d a b c d
-putting_start {stop} {last} {s} w v h r = record { way = v; here = place_start v h; inside = omega arith; writes = rw (same_by v w h) (writing_start (pieces_by stop s w) r) }
+  pub few : k ≤ at
+  pub writes : Writing stored size (pieces_by stop s w) (step_pieces stop last w s at) k l l₀
 
 -- A piece has at most two columns a byte.
 until_most : (stop : ℕ) (xs : List Chr) → length (until stop xs) ≤ length xs
@@ -102,25 +97,35 @@ step_width stop last w s i =
       length-take last s,
     )
 
-module _ {one : ℕ → List ℕ} {stop last w : ℕ} {s : List ℕ} {at place : ℕ} {a b c d a₀ b₀ c₀ d₀ : List ℕ} (p : Putting one stop last w s at place a b c d a₀ b₀ c₀ d₀) (l : at < last) where
-  next_writes : Writing one (pieces_by stop s w) (step_piece stop last w s at ∷ step_pieces stop last w s (after_step stop last w s at)) place a b c d a₀ b₀ c₀ d₀
-  next_writes = rw (step_next p.way w at p.here l) at p.writes
+module _ {A : Type 0} {numbers : List A → List ℕ} {places : List A → ℕ} {place : ℕ → ℕ} {stored : List ℕ → List A} {size : ℕ} (laws : CellLaws numbers places place stored size) where
+  pub putting_start : {stop last : ℕ} {s : List ℕ} (w : ℕ) (l : WordLists A) → Way stop last s → Whole s → length (pieces_by stop s w) ≤ room places l → Putting stored size stop last w s 0 0 l l
+  putting_start {stop} {last} {s} w l v h r = record { way = v; here = place_start v h; inside = omega arith; few = omega arith; writes = rw (same_by v w h) (writing_start laws (pieces_by stop s w) l r) }
 
-  pub putting_put : {size : ℕ} → ((v : ℕ) → length (one v) ≡ size) → PutAt size place a b c d
-  putting_put sized = writing_put sized next_writes
+  next_writes : {stop last w : ℕ} {s : List ℕ} {at k : ℕ} {l l₀ : WordLists A} → Putting stored size stop last w s at k l l₀ → at < last
+      → Writing stored size (pieces_by stop s w) (step_piece stop last w s at ∷ step_pieces stop last w s (after_step stop last w s at)) k l l₀
+  next_writes {w = w} {at = at} p h = rw (step_next p.way w at p.here h) at p.writes
 
-  pub putting_again : {size : ℕ} {r : Word} {a' b' c' d' : List ℕ} → ((v : ℕ) → length (one v) ≡ size) → r ≡ step_piece stop last w s at
-      → a' ≡ sets a place (one (start_of r)) → b' ≡ sets b place (one (end_of r)) → c' ≡ sets c place (one (white_of r)) → d' ≡ sets d place (one (width_of_word r))
-      → Putting one stop last w s (r.end.0 + r.white.0) (place + size) a' b' c' d' a₀ b₀ c₀ d₀
-  putting_again {size} {r} sized e ea eb ec ed =
-      let g = goes p.way w at p.here l in
+  pub putting_put : {stop last w : ℕ} {s : List ℕ} {at k : ℕ} {l l₀ : WordLists A} → Putting stored size stop last w s at k l l₀ → at < last → PutAt size (size * k) l
+  putting_put p h = writing_put laws (next_writes p h)
+
+  pub putting_again : {stop last w : ℕ} {s : List ℕ} {at k : ℕ} {l l₀ l' : WordLists A} {r : Word} → Putting stored size stop last w s at k l l₀ → at < last → r ≡ step_piece stop last w s at
+      → After stored (size * k) (start_of r) l.starts.now l'.starts.now → After stored (size * k) (end_of r) l.ends.now l'.ends.now
+      → After stored (size * k) (white_of r) l.whites.now l'.whites.now → After stored (size * k) (width_of_word r) l.widths.now l'.widths.now
+      → Same l l' → Putting stored size stop last w s (r.end.0 + r.white.0) (k + 1) l' l₀
+  putting_again {stop} {last} {w} {s} {at} p h e ea eb ec ed m =
+      let g = goes p.way w at p.here h in
       rw (after_is stop last w s at e) (record {
         way = p.way;
         here = g.place;
         inside = g.inside;
-        writes = writing_step sized next_writes (ea ∙ rw e) (eb ∙ rw e) (ec ∙ rw e) (ed ∙ rw e);
+        few = omega (arith, g.later, p.few);
+        writes = writing_step laws (next_writes p h) (ea ∙ rw e) (eb ∙ rw e) (ec ∙ rw e) (ed ∙ rw e) m;
       })
 
+  pub putting_end : {stop last w : ℕ} {s : List ℕ} {at k : ℕ} {l l₀ : WordLists A} → Putting stored size stop last w s at k l l₀ → last ≤ at → Written stored (pieces_by stop s w) l l₀
+  putting_end {stop} {last} {w} {s} {at} p h = writing_end laws (rw (step_none stop last w s at h) at p.writes)
+
+module _ {A : Type 0} {stored : List ℕ → List A} {size stop last w : ℕ} {s : List ℕ} {at k : ℕ} {lists lists₀ : WordLists A} (p : Putting stored size stop last w s at k lists lists₀) (l : at < last) where
   pub putting_less : {r : Word} → r ≡ step_piece stop last w s at → last - (r.end.0 + r.white.0) < last - at
   putting_less {r} e = let g = goes p.way w at p.here l in omega (arith, g.later, after_is stop last w s at e)
 
@@ -135,44 +140,20 @@ module _ {one : ℕ → List ℕ} {stop last w : ℕ} {s : List ℕ} {at place :
       let z : r.start.0 ≡ at = start_is stop last w s at e in
       record { start = omega (arith, p.inside); end = omega (arith, g.inside); white = omega (arith, g.inside); width = omega arith }
 
-pub putting_end : {one : ℕ → List ℕ} {stop last w : ℕ} {s : List ℕ} {at place : ℕ} {a b c d a₀ b₀ c₀ d₀ : List ℕ} → Putting one stop last w s at place a b c d a₀ b₀ c₀ d₀ → last ≤ at
-    → Written one (pieces_by stop s w) a b c d a₀ b₀ c₀ d₀
-putting_end {one} {stop} {last} {w} {s} {at} p l = writing_end (rw (step_none stop last w s at l) at p.writes)
+pub ruleset putting = (putting_less, putting_fits, putting_small, way_inside)
 
-pub ruleset putting = (putting_start, putting_put, putting_again, putting_less, putting_fits, putting_small, putting_end, way_inside)
+-- ---- what `list_pieces` answers, of a text and a width that are admitted
 
--- ---- what `list_pieces` answers
+pub broken_no_room : (room : ℕ) (ps : List Word) {n m : ℕ} → n ≡ length ps → m ≡ room → m < n → Err (NoRoom n) ≡ listed_in room (length ps)
+broken_no_room room ps {n} {m} q z b = rw (← q, ← z, lt-ltb m n b)
 
-pub broken_long : (s : List ℕ) (w room : ℕ) (ps : List Word) → text_most < length s → TooLong (record { 0 = length s }) ≡ broken_of s w room ps
-unfolding broken_of
-broken_long s w room ps l = rw (lt-ltb text_most (length s) l)
+pub broken_all : (room : ℕ) (ps : List Word) {n m : ℕ} → n ≡ length ps → m ≡ room → n ≤ m → Ok n ≡ listed_in room (length ps)
+broken_all room ps {n} {m} q z b = rw (← q, ← z, le-ltb m n b)
 
-module _ (s : List ℕ) (w room : ℕ) (ps : List Word) {r : Checked} (l : length s ≤ text_most) (e : r ≡ checked s) where
-  pub broken_fault : {o : Offset} → r ≡ utf8.Fault o → NotUtf8 o ≡ broken_of s w room ps
-  unfolding broken_of
-  broken_fault {o} p =
-      let f = checked_fault s (sym p ∙ e) in
-      rw (le-ltb text_most (length s) l, lt-ltb (first_fault s) (length s) f.1, f.0)
+pub broken_room : (room : ℕ) (ps : List Word) {n m : ℕ} → n ≡ length ps → m ≡ room → n ≤ m → length ps ≤ room
+broken_room room ps q z b = omega arith
 
-  pub broken_wide : r ≡ utf8.Whole → width_most < w → TooWide ≡ broken_of s w room ps
-  unfolding broken_of
-  broken_wide p h =
-      let f = checked_whole s (sym p ∙ e) in
-      rw (le-ltb text_most (length s) l, le-ltb (first_fault s) (length s) (omega (arith, f)), lt-ltb width_most w h)
-
-  pub broken_no_room : {n m : ℕ} → r ≡ utf8.Whole → w ≤ width_most → n ≡ length ps → m ≡ room → m < n → NoRoom n ≡ broken_of s w room ps
-  unfolding broken_of
-  broken_no_room {n} {m} p h q z b =
-      let f = checked_whole s (sym p ∙ e) in
-      rw (le-ltb text_most (length s) l, le-ltb (first_fault s) (length s) (omega (arith, f)), le-ltb width_most w h, ← q, ← z, lt-ltb m n b)
-
-  pub broken_all : {n m : ℕ} → r ≡ utf8.Whole → w ≤ width_most → n ≡ length ps → m ≡ room → n ≤ m → Pieces n ≡ broken_of s w room ps
-  unfolding broken_of
-  broken_all {n} {m} p h q z b =
-      let f = checked_whole s (sym p ∙ e) in
-      rw (le-ltb text_most (length s) l, le-ltb (first_fault s) (length s) (omega (arith, f)), le-ltb width_most w h, ← q, ← z, le-ltb m n b)
-
-pub ruleset breaking = (broken_long, broken_fault, broken_wide, broken_no_room, broken_all, find_room, find_whole)
+pub ruleset breaking = (broken_no_room, broken_all, broken_room)
 
 -- ---- the two entries
 

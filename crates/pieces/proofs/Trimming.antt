@@ -16,15 +16,14 @@ use Rattle.logic.specs.Count.{count}
 use Rattle.logic.proofs.Choice.{both, pick_le}
 use Rattle.chars.specs.Utf8.{Head, Found, Nothing, head_of, decode_from, bytes, first_fault, Whole}
 use Rattle.chars.proofs.Laws.{head_low, head_char, head_cut, ends_before, cut_before, fault_append, fault_only, fault_fits, split}
-use Rattle.measure.specs.declared.Passed.{Passed}
-use Rattle.measure.specs.declared.Passed.TheVariants as passed
 use Rattle.measure.specs.Escapes.{width_of}
 use Rattle.measure.specs.Measure.{passed_of}
 use Rattle.measure.proofs.Walk.{walked}
 use Rattle.words.specs.Words.{space}
-use Rattle.pieces.specs.declared.OneWord.TheVariants.{Made, TooLong, NotUtf8}
 use Rattle.pieces.specs.Pieces.{trimmed, word_from}
 use Rattle.pieces.specs.Lists.{one_word_of}
+use Rattle.std.specs.Prelude.{Err, Ok, Result}
+use Rattle.limits.specs.declared.TextRefusal.TheVariants.{NotUtf8, TooLong}
 
 pub trimmed_fits : (s : List ℕ) → trimmed s ≤ length s
 unfolding trimmed
@@ -126,63 +125,54 @@ trimmed_fault s l = go (how_ended s)
     go (ended e) = rw e
     go (spaced ys e) = ap first_fault (sym e) ∙ fault_cut (take (trimmed s) s) ys 0x20 (omega arith) (omega (arith, length-take-le (trimmed s) s (trimmed_fits s)))
 
--- ---- the loop of `content_end`
+-- ---- the loop of `content_end`: the spaces at the end of t are cut off, one after the other
 
-pub record Trimming (s : List ℕ) (end : ℕ) : Type 0 where
-  pub inside : end ≤ length s
-  pub same : trimmed (take end s) ≡ trimmed s
+last_byte : (t : List ℕ) → 1 ≤ length t → t ≡ take (length t - 1) t ++ get_or t (length t - 1) 0 ∷ []
+last_byte t l = let z : length t ≡ suc (length t - 1) = omega arith in sym (take-length t) ∙ ap (λ n. take n t) z ∙ take-suc t (length t - 1) 0 (omega arith)
 
-pub trimming_start : (s : List ℕ) → Trimming s (length s)
-trimming_start s = record { inside = omega arith; same = rw (take-length s) }
+pub trimming_step : (s t : List ℕ) {b : Bool} → trimmed t ≡ trimmed s → 1 ≤ length t → b ≡ space (get_or t (length t - 1) 0) → b ≡ true → trimmed (take (length t - 1) t) ≡ trimmed s
+trimming_step s t k l e q = sym (trimmed_space (take (length t - 1) t) (get_or t (length t - 1) 0) (sym e ∙ q)) ∙ ap trimmed (sym (last_byte t l)) ∙ k
 
-last_byte : (s : List ℕ) (end : ℕ) → 0 < end → end ≤ length s → take end s ≡ take (end - 1) s ++ get_or s (end - 1) 0 ∷ []
-last_byte s end p l = let z : end ≡ suc (end - 1) = omega arith in ap (λ n. take n s) z ∙ take-suc s (end - 1) 0 (omega arith)
+pub trimming_stop : (s t : List ℕ) {b : Bool} → trimmed t ≡ trimmed s → 1 ≤ length t → b ≡ space (get_or t (length t - 1) 0) → b ≡ false → length t ≡ trimmed s
+trimming_stop s t k l e q =
+    let a = trimmed_letter (take (length t - 1) t) (get_or t (length t - 1) 0) (sym e ∙ q) in
+    omega (arith, ap trimmed (last_byte t l), a, k, length-take-le (length t - 1) t (omega arith))
 
-pub trimming_step : {s : List ℕ} {end : ℕ} {t : Bool} → Trimming s end → 0 < end → t ≡ space (get_or s (end - 1) 0) → t ≡ true → Trimming s (end - 1)
-trimming_step {s} {end} {t} k p e q =
-    record { inside = omega (arith, k.inside); same = sym (trimmed_space (take (end - 1) s) (get_or s (end - 1) 0) (sym e ∙ q)) ∙ rw (last_byte s end p k.inside) at k.same }
+pub trimming_end : (s t : List ℕ) → trimmed t ≡ trimmed s → length t < 1 → 0 ≡ trimmed s
+trimming_end s t k l = omega (arith, k, trimmed_fits t)
 
-pub trimming_stop : {s : List ℕ} {end : ℕ} {t : Bool} → Trimming s end → 0 < end → t ≡ space (get_or s (end - 1) 0) → t ≡ false → end ≡ trimmed s
-trimming_stop {s} {end} {t} k p e q =
-    let a = trimmed_letter (take (end - 1) s) (get_or s (end - 1) 0) (sym e ∙ q) in
-    let b = rw (last_byte s end p k.inside) at k.same in
-    omega (arith, k.inside, length-take-le (end - 1) s (omega (arith, k.inside)))
-
-pub trimming_end : {s : List ℕ} {end : ℕ} → Trimming s end → end ≤ 0 → end ≡ trimmed s
-unfolding trimmed
-trimming_end {s} {end} k p = let z : end ≡ 0 = omega arith in let b : 0 ≡ trimmed s = rw z at k.same in omega arith
-
-pub ruleset trimming = (trimming_start, trimming_step, trimming_stop, trimming_end, not-true, not-false)
+pub ruleset trimming = (trimming_step, trimming_stop, trimming_end, not-true, not-false)
 
 -- ---- what `word_from` answers
 
-pub one_long : (s : List ℕ) → text_most < length s → TooLong (record { 0 = length s }) ≡ one_word_of s
+pub one_long : (s : List ℕ) → text_most < length s → Err (TooLong (record { 0 = length s })) ≡ one_word_of s
 unfolding one_word_of
 one_long s l = rw (lt-ltb text_most (length s) l)
 
-module _ (s : List ℕ) {e : ℕ} {r : Passed} (l : length s ≤ text_most) (q : e ≡ trimmed s) (p : r ≡ passed_of 0xFFFFFFFF (take e s) 0) where
-  read : r ≡ pick (leb (length (take (trimmed s) s)) (first_fault (take (trimmed s) s))) (passed.To (record { 0 = width_of (take (trimmed s) s) }) (record { 0 = first_fault (take (trimmed s) s) }))
-      (passed.Fault (record { 0 = first_fault (take (trimmed s) s) }))
+module _ (s : List ℕ) {e : ℕ} {r : Result (Columns × Offset) Offset} (l : length s ≤ text_most) (q : e ≡ trimmed s) (p : r ≡ passed_of 0xFFFFFFFF (take e s) 0) where
+  read : r ≡ pick (leb (length (take (trimmed s) s)) (first_fault (take (trimmed s) s))) (Ok (record { 0 = width_of (take (trimmed s) s) }, record { 0 = first_fault (take (trimmed s) s) }))
+      (Err (record { 0 = first_fault (take (trimmed s) s) }))
   read = p ∙ walked (take e s) ∙ rw q
 
-  pub one_made : {w : Columns} {o : Offset} → r ≡ passed.To w o → Made (record { start = record { 0 = 0 }; end = record { 0 = e }; white = record { 0 = length s - e }; width = w }) ≡ one_word_of s
+  pub one_made : {w : Columns} {o : Offset} → r ≡ Ok (w, o) → Ok (record { start = record { 0 = 0 }; end = record { 0 = e }; white = record { 0 = length s - e }; width = w }) ≡ one_word_of s
   unfolding one_word_of word_from
   one_made {w} {o} h =
       both (leb (length (take (trimmed s) s)) (first_fault (take (trimmed s) s)))
       (λ t.
-      let z : passed.To w o ≡ passed.To (record { 0 = width_of (take (trimmed s) s) }) (record { 0 = first_fault (take (trimmed s) s) }) = sym h ∙ read ∙ rw t in
-      let x : w ≡ record { 0 = width_of (take (trimmed s) s) } = cc in
+      let z : Ok (w, o) ≡ Ok (record { 0 = width_of (take (trimmed s) s) }, record { 0 = first_fault (take (trimmed s) s) }) = sym h ∙ read ∙ rw t in
+      let y : (w, o) ≡ (record { 0 = width_of (take (trimmed s) s) }, record { 0 = first_fault (take (trimmed s) s) }) = cc in
+      let x : w ≡ record { 0 = width_of (take (trimmed s) s) } = ap (λ (p : Columns × Offset). p.0) y in
       let v : Whole (take (trimmed s) s) = omega (arith, fault_fits (take (trimmed s) s), leb-true (length (take (trimmed s) s)) (first_fault (take (trimmed s) s)) t) in
       rw (le-ltb text_most (length s) l, le-ltb (first_fault s) (length s) (omega (arith, untrimmed_whole s v)), q, x))
-      (λ t. let z : passed.To w o ≡ passed.Fault (record { 0 = first_fault (take (trimmed s) s) }) = sym h ∙ read ∙ rw t in cc)
+      (λ t. let z : Ok (w, o) ≡ Err (record { 0 = first_fault (take (trimmed s) s) }) = sym h ∙ read ∙ rw t in cc)
 
-  pub one_fault : {o : Offset} → r ≡ passed.Fault o → NotUtf8 o ≡ one_word_of s
+  pub one_fault : {o : Offset} → r ≡ Err o → Err (NotUtf8 o) ≡ one_word_of s
   unfolding one_word_of
   one_fault {o} h =
       both (leb (length (take (trimmed s) s)) (first_fault (take (trimmed s) s)))
-      (λ t. let z : passed.Fault o ≡ passed.To (record { 0 = width_of (take (trimmed s) s) }) (record { 0 = first_fault (take (trimmed s) s) }) = sym h ∙ read ∙ rw t in cc)
+      (λ t. let z : Err o ≡ Ok (record { 0 = width_of (take (trimmed s) s) }, record { 0 = first_fault (take (trimmed s) s) }) = sym h ∙ read ∙ rw t in cc)
       (λ t.
-      let z : passed.Fault o ≡ passed.Fault (record { 0 = first_fault (take (trimmed s) s) }) = sym h ∙ read ∙ rw t in
+      let z : Err o ≡ Err (record { 0 = first_fault (take (trimmed s) s) }) = sym h ∙ read ∙ rw t in
       let x : o ≡ record { 0 = first_fault (take (trimmed s) s) } = cc in
       let n = length-take-le (trimmed s) s (trimmed_fits s) in
       let b = leb-false (length (take (trimmed s) s)) (first_fault (take (trimmed s) s)) t in

@@ -5,19 +5,20 @@
 // pieces out.
 #![tactic(auto)]
 
-ghost use Rattle.std.specs.Prelude.{◌≡◌, ◌≤◌, min, map, length};
+ghost use Rattle.std.specs.Prelude.{◌≡◌, ◌≤◌, map, length};
 ghost use Rattle.std.proofs.lemmas.List.Edits.{sets};
 ghost use Rattle.units.specs.Limits.{text_most};
 ghost use Rattle.chars.specs.Utf8.{Whole};
-ghost use Rattle.words.specs.Lists.{start_of, end_of, white_of, width_of_word, Room};
+ghost use Rattle.words.specs.Lists.{start_of, end_of, white_of, width_of_word, Same, room};
 ghost use Rattle.pieces.specs.Pieces.{starts, trimmed, break_apart, break_words};
-ghost use Rattle.pieces.specs.Lists.{one_word_of, word_answer_of, broken_of, Lists, answer_of, pieces_by};
+ghost use Rattle.pieces.specs.Lists.{one_word_of, word_answer_of, broken_of, Lists, pieces_by};
 ghost use Rattle.pieces.specs.Steps.{Way, cut_at, spaces_after, step_piece};
 
-use chars::{Checked, Read};
-use measure::{Mode, NO_STOP, Passed};
-use units::{Answer, Columns, Offset, TEXT_MOST, WIDTH_MOST};
-use words::{SPACE_CHAR, Word};
+use limits::TextRefusal;
+use measure::{Mode, NO_STOP};
+use units::{Answer, Columns, Offset, TEXT_MOST};
+use wire::Cell;
+use words::{SPACE_CHAR, Word, WordLists};
 
 // Where a piece ends, and its columns.
 #[derive(Clone, Copy)]
@@ -26,26 +27,8 @@ pub struct Cut {
     pub width: Columns,
 }
 
-// How many pieces were listed; or why none were: too long, with the length; not UTF-8, with the first
-// fault; a width above 255; too little room, with the places needed.
-#[derive(Clone, Copy)]
-pub enum Broken {
-    Pieces(usize),
-    TooLong(Offset),
-    NotUtf8(Offset),
-    TooWide,
-    NoRoom(usize),
-}
-
-// A text as one word; or why it is none: too long, with the length; not UTF-8, with the first fault.
-#[derive(Clone, Copy)]
-pub enum OneWord {
-    Made(Word),
-    TooLong(Offset),
-    NotUtf8(Offset),
-}
-
 // Whether a character starts a new piece, by the columns of the current one without it and with it.
+#[tactic(auto, unfolding(crate::specs::Pieces::starts))]
 fn starts_piece(width: usize, cols: usize, sum: usize) -> bool
     ensures { result ≡ starts width cols sum }
 {
@@ -54,105 +37,98 @@ fn starts_piece(width: usize, cols: usize, sum: usize) -> bool
 
 // The piece that starts at a place and takes what fits: up to a character that starts the next piece, to
 // the first that is `stop`, to the end of the text, or to a place where no character starts.
+#[tactic(auto, using(crate::proofs::Cutting::cutting))]
 fn cut_from(text: &[u8], from: Offset, stop: u32, width: Columns) -> Cut
     ensures { result ≡ cut_at stop width.0 text.now from.0 }
 {
-    let mut at = from;
-    let mut cols = Columns(0);
+    let mut cut = Cut {
+        end: from,
+        width: Columns(0),
+    };
     let mut mode = Mode::Text;
-    while at.0 < text.len() {
-        let Read::Char(c, after) = chars::read_char(text, at) else {
-            return Cut {
-                end: at,
-                width: cols,
-            };
+    // a test of the end besides: `while let` on what is read is slower
+    while cut.end.0 < text.len() {
+        let Ok((c, after)) = chars::read_char(text, cut.end) else {
+            return cut;
         };
         if c == stop {
-            return Cut {
-                end: at,
-                width: cols,
-            };
+            return cut;
         }
-        let sum = cols.0 + measure::columns_taken(mode, c);
-        if starts_piece(width.0, cols.0, sum) {
-            return Cut {
-                end: at,
-                width: cols,
-            };
+        let sum = cut.width.0 + measure::columns_taken(mode, c);
+        if starts_piece(width.0, cut.width.0, sum) {
+            return cut;
         }
-        at = after;
-        cols = Columns(sum);
+        cut = Cut {
+            end: after,
+            width: Columns(sum),
+        };
         mode = measure::next_mode(mode, c);
     }
-    Cut {
-        end: at,
-        width: cols,
-    }
+    cut
 }
 
 // The end of a text's content: its length without the spaces at its end.
+#[tactic(auto, using(crate::proofs::Trimming::trimming))]
 pub fn content_end(text: &[u8]) -> usize
     ensures { result ≡ trimmed text.now }
 {
-    let mut end = text.len();
-    while 0 < end {
-        let before = end - 1;
-        if !words::is_space(text[before]) {
-            return end;
+    let mut content = text;
+    while let [front @ .., last] = content {
+        if !words::is_space(*last) {
+            return content.len();
         }
-        end = before;
-    }
-    end
-}
-
-// A text as one word: the spaces at its end are its whitespace, and the rest its content.
-pub fn word_from(text: &[u8]) -> OneWord
-    ensures { result ≡ one_word_of text.now }
-{
-    if TEXT_MOST < text.len() {
-        return OneWord::TooLong(Offset(text.len()));
-    }
-    let end = content_end(text);
-    match measure::columns_until(&text[..end], Offset(0), NO_STOP) {
-        Passed::To(width, _) => {
-            let white = text.len() - end;
-            OneWord::Made(Word {
-                start: Offset(0),
-                end: Offset(end),
-                white: Columns(white),
-                width,
-            })
-        }
-        Passed::Fault(at) => OneWord::NotUtf8(at),
-    }
-}
-
-// How many spaces belong to a piece that ends at a place: those that follow a word's content, and none
-// where the word goes on.
-fn spaces_after(text: &[u8], end: usize, last: usize, stop: u32) -> usize
-    ensures { result ≡ spaces_after stop last text.now end }
-{
-    if (end == last) | (stop == SPACE_CHAR) {
-        let after = words::space_end(text, end);
-        return after - end;
+        content = front;
     }
     0
 }
 
+// A text as one word: the spaces at its end are its whitespace, and the rest its content.
+#[tactic(auto, using(crate::proofs::Trimming::making))]
+pub fn word_from(text: &[u8]) -> Result<Word, TextRefusal>
+    ensures { result ≡ one_word_of text.now }
+{
+    if TEXT_MOST < text.len() {
+        return Err(TextRefusal::TooLong(Offset(text.len())));
+    }
+    let end = content_end(text);
+    let (width, _) = measure::columns_until(&text[..end], Offset(0), NO_STOP).map_err(
+        TextRefusal::NotUtf8,
+    )?;
+    let white = text.len() - end;
+    Ok(Word {
+        start: Offset(0),
+        end: Offset(end),
+        white: Columns(white),
+        width,
+    })
+}
+
+// How many spaces belong to a piece that ends at a place: those that follow a word's content, and none
+// where the word goes on.
+#[tactic(auto, using(crate::proofs::Stepping::finding))]
+fn spaces_after(text: &[u8], end: usize, last: usize, stop: u32) -> usize
+    ensures { result ≡ spaces_after stop last text.now end }
+{
+    if (end == last) | (stop == SPACE_CHAR) {
+        words::space_end(text, end) - end
+    } else {
+        0
+    }
+}
+
 // The piece that starts at a place. The content ends at `last`; a word in it ends before `stop`.
+#[tactic(auto, using(crate::proofs::Stepping::finding))]
 pub fn next_piece(text: &[u8], at: Offset, last: usize, stop: u32, width: Columns) -> Word
     requires { last ≤ length text.now }
     ensures { result ≡ step_piece stop last width.0 text.now at.0 }
 {
     let found = cut_from(&text[..last], at, stop, width);
-    let end = found.end;
-    let cols = found.width;
-    let white = spaces_after(text, end.0, last, stop);
+    let white = spaces_after(text, found.end.0, last, stop);
     Word {
         start: at,
-        end,
+        end: found.end,
         white: Columns(white),
-        width: cols,
+        width: found.width,
     }
 }
 
@@ -173,132 +149,103 @@ pub fn count_pieces(text: &[u8], last: usize, stop: u32, width: Columns) -> usiz
 }
 
 // Lists the pieces, in lists that have room for them.
-fn write_pieces(
+fn write_pieces<C: Cell<u32>>(
     text: &[u8],
     last: usize,
     stop: u32,
     width: Columns,
-    starts: &mut [u32],
-    ends: &mut [u32],
-    whites: &mut [u32],
-    widths: &mut [u32],
+    lists: &mut WordLists<'_, C>,
 )
     requires text_len_bound { (length text.now ≤ text_most) × Way stop last text.now × Whole text.now }
-    requires room { Room (length (pieces_by stop text.now width.0)) starts.old ends.old whites.old widths.old }
-    ensures starts_after { starts.new ≡ sets starts.old 0 (map start_of (pieces_by stop text.now width.0)) }
-    ensures ends_after { ends.new ≡ sets ends.old 0 (map end_of (pieces_by stop text.now width.0)) }
-    ensures whites_after { whites.new ≡ sets whites.old 0 (map white_of (pieces_by stop text.now width.0)) }
-    ensures widths_after { widths.new ≡ sets widths.old 0 (map width_of_word (pieces_by stop text.now width.0)) }
+    requires room { length (pieces_by stop text.now width.0) ≤ room C.places lists.old }
+    ensures starts_after { lists.new.starts.now ≡ sets lists.old.starts.now 0 (C.stored (map start_of (pieces_by stop text.now width.0))) }
+    ensures ends_after { lists.new.ends.now ≡ sets lists.old.ends.now 0 (C.stored (map end_of (pieces_by stop text.now width.0))) }
+    ensures whites_after { lists.new.whites.now ≡ sets lists.old.whites.now 0 (C.stored (map white_of (pieces_by stop text.now width.0))) }
+    ensures widths_after { lists.new.widths.now ≡ sets lists.old.widths.now 0 (C.stored (map width_of_word (pieces_by stop text.now width.0))) }
+    ensures same { Same lists.old lists.new }
 {
     let mut at = Offset(0);
     let mut k = 0;
     while at.0 < last {
         let found = next_piece(text, at, last, stop, width);
         let after = found.end.0 + found.white.0;
-        let here = k;
+        lists.put(C::SIZE * k, found);
         k += 1;
-        words::put_word(starts, ends, whites, widths, here, found);
         at = Offset(after);
     }
 }
 
 // Tests what is given, and lists the pieces.
-fn list_pieces(
+#[tactic(auto, using(limits::proofs::Laws::admitting, limits::proofs::Laws::narrowing, crate::proofs::Listing::breaking), unfolding(crate::specs::Lists::broken_of))]
+fn list_pieces<C: Cell<u32>>(
     text: &[u8],
     last: usize,
     stop: u32,
     width: u32,
-    starts: &mut [u32],
-    ends: &mut [u32],
-    whites: &mut [u32],
-    widths: &mut [u32],
-) -> Broken
+    lists: &mut WordLists<'_, C>,
+) -> Result<usize, TextRefusal>
     requires { Way stop last text.now }
-    ensures value { result ≡ broken_of text.now width (min (min (length starts.old) (length ends.old)) (min (length whites.old) (length widths.old))) (pieces_by stop text.now width) }
-    ensures starts_after { starts.new ≡ Lists result (map start_of (pieces_by stop text.now width)) starts.old }
-    ensures ends_after { ends.new ≡ Lists result (map end_of (pieces_by stop text.now width)) ends.old }
-    ensures whites_after { whites.new ≡ Lists result (map white_of (pieces_by stop text.now width)) whites.old }
-    ensures widths_after { widths.new ≡ Lists result (map width_of_word (pieces_by stop text.now width)) widths.old }
+    ensures value { result ≡ broken_of text.now width (room C.places lists.old) (pieces_by stop text.now width) }
+    ensures starts_after { lists.new.starts.now ≡ Lists result (C.stored (map start_of (pieces_by stop text.now width))) lists.old.starts.now }
+    ensures ends_after { lists.new.ends.now ≡ Lists result (C.stored (map end_of (pieces_by stop text.now width))) lists.old.ends.now }
+    ensures whites_after { lists.new.whites.now ≡ Lists result (C.stored (map white_of (pieces_by stop text.now width))) lists.old.whites.now }
+    ensures widths_after { lists.new.widths.now ≡ Lists result (C.stored (map width_of_word (pieces_by stop text.now width))) lists.old.widths.now }
+    ensures same { Same lists.old lists.new }
 {
-    if TEXT_MOST < text.len() {
-        return Broken::TooLong(Offset(text.len()));
+    limits::admit(text, TEXT_MOST)?;
+    let cols = limits::columns_of(width)?;
+    let n = count_pieces(text, last, stop, cols);
+    if lists.room() < n {
+        return Err(TextRefusal::NoRoom(n));
     }
-    match chars::first_fault(text) {
-        Checked::Whole => {
-            if WIDTH_MOST < width {
-                return Broken::TooWide;
-            }
-            let cols = Columns(width as usize);
-            let n = count_pieces(text, last, stop, cols);
-            if words::shortest(starts.len(), ends.len(), whites.len(), widths.len()) < n {
-                return Broken::NoRoom(n);
-            }
-            write_pieces(text, last, stop, cols, starts, ends, whites, widths);
-            Broken::Pieces(n)
-        }
-        Checked::Fault(at) => Broken::NotUtf8(at),
-    }
+    write_pieces(text, last, stop, cols, lists);
+    Ok(n)
 }
 
 // Lists the pieces of a text that is one word, the spaces at its end being its whitespace: start, content
 // end, whitespace length and width, one place a piece.
-pub fn break_apart(
+#[tactic(auto, using(crate::proofs::Listing::ways))]
+pub fn break_apart<C: Cell<u32>>(
     text: &[u8],
     width: u32,
-    starts: &mut [u32],
-    ends: &mut [u32],
-    whites: &mut [u32],
-    widths: &mut [u32],
-) -> Broken
-    ensures value { result ≡ broken_of text.now width (min (min (length starts.old) (length ends.old)) (min (length whites.old) (length widths.old))) (break_apart text.now width) }
-    ensures starts_after { starts.new ≡ Lists result (map start_of (break_apart text.now width)) starts.old }
-    ensures ends_after { ends.new ≡ Lists result (map end_of (break_apart text.now width)) ends.old }
-    ensures whites_after { whites.new ≡ Lists result (map white_of (break_apart text.now width)) whites.old }
-    ensures widths_after { widths.new ≡ Lists result (map width_of_word (break_apart text.now width)) widths.old }
+    lists: &mut WordLists<'_, C>,
+) -> Result<usize, TextRefusal>
+    ensures value { result ≡ broken_of text.now width (room C.places lists.old) (break_apart text.now width) }
+    ensures starts_after { lists.new.starts.now ≡ Lists result (C.stored (map start_of (break_apart text.now width))) lists.old.starts.now }
+    ensures ends_after { lists.new.ends.now ≡ Lists result (C.stored (map end_of (break_apart text.now width))) lists.old.ends.now }
+    ensures whites_after { lists.new.whites.now ≡ Lists result (C.stored (map white_of (break_apart text.now width))) lists.old.whites.now }
+    ensures widths_after { lists.new.widths.now ≡ Lists result (C.stored (map width_of_word (break_apart text.now width))) lists.old.widths.now }
+    ensures same { Same lists.old lists.new }
 {
     let last = content_end(text);
-    list_pieces(text, last, NO_STOP, width, starts, ends, whites, widths)
+    list_pieces(text, last, NO_STOP, width, lists)
 }
 
 // Lists the words of a text, and in the place of each that is wider its pieces.
-pub fn break_words(
+#[tactic(auto, using(crate::proofs::Listing::ways))]
+pub fn break_words<C: Cell<u32>>(
     text: &[u8],
     width: u32,
-    starts: &mut [u32],
-    ends: &mut [u32],
-    whites: &mut [u32],
-    widths: &mut [u32],
-) -> Broken
-    ensures value { result ≡ broken_of text.now width (min (min (length starts.old) (length ends.old)) (min (length whites.old) (length widths.old))) (break_words text.now width) }
-    ensures starts_after { starts.new ≡ Lists result (map start_of (break_words text.now width)) starts.old }
-    ensures ends_after { ends.new ≡ Lists result (map end_of (break_words text.now width)) ends.old }
-    ensures whites_after { whites.new ≡ Lists result (map white_of (break_words text.now width)) whites.old }
-    ensures widths_after { widths.new ≡ Lists result (map width_of_word (break_words text.now width)) widths.old }
+    lists: &mut WordLists<'_, C>,
+) -> Result<usize, TextRefusal>
+    ensures value { result ≡ broken_of text.now width (room C.places lists.old) (break_words text.now width) }
+    ensures starts_after { lists.new.starts.now ≡ Lists result (C.stored (map start_of (break_words text.now width))) lists.old.starts.now }
+    ensures ends_after { lists.new.ends.now ≡ Lists result (C.stored (map end_of (break_words text.now width))) lists.old.ends.now }
+    ensures whites_after { lists.new.whites.now ≡ Lists result (C.stored (map white_of (break_words text.now width))) lists.old.whites.now }
+    ensures widths_after { lists.new.widths.now ≡ Lists result (C.stored (map width_of_word (break_words text.now width))) lists.old.widths.now }
+    ensures same { Same lists.old lists.new }
 {
     let last = text.len();
-    list_pieces(text, last, SPACE_CHAR, width, starts, ends, whites, widths)
-}
-
-// The numbers of document 01 for what breaking answers.
-pub fn answer_of(b: Broken) -> Answer
-    ensures { result ≡ answer_of b }
-{
-    match b {
-        Broken::Pieces(n) => units::done(n),
-        Broken::TooLong(length) => units::refused(1, length.0),
-        Broken::NotUtf8(at) => units::refused(2, at.0),
-        Broken::TooWide => units::refused(3, 0),
-        Broken::NoRoom(needed) => units::refused(7, needed),
-    }
+    list_pieces(text, last, SPACE_CHAR, width, lists)
 }
 
 // The numbers of document 01 for a text as one word.
-pub fn word_answer_of(w: OneWord) -> Answer
+#[tactic(auto, unfolding(crate::specs::Lists::word_answer_of))]
+pub fn word_answer_of(w: Result<Word, TextRefusal>) -> Answer
     ensures { result ≡ word_answer_of w }
 {
     match w {
-        OneWord::Made(_) => units::done(1),
-        OneWord::TooLong(length) => units::refused(1, length.0),
-        OneWord::NotUtf8(at) => units::refused(2, at.0),
+        Ok(_) => units::done(1),
+        Err(why) => Answer::from(why),
     }
 }

@@ -2,40 +2,38 @@
 use Rattle.std.specs.Prelude.{ℕ, zero, suc, List, [], ◌∷◌, ltb, length}
 use Rattle.units.specs.declared.Answer.{Answer}
 use Rattle.units.specs.Limits.{text_most}
-use Rattle.units.specs.Answers.{success, refusal}
+use Rattle.units.specs.Answers.{success}
 use Rattle.logic.specs.Choice.{pick}
-use Rattle.chars.specs.Utf8.{first_fault}
 use Rattle.words.specs.declared.Word.{Word}
 use Rattle.words.specs.declared.Step.{Step}
 use Rattle.words.specs.declared.Step.TheVariants as step
 use Rattle.words.specs.Words.{step_at}
-use Rattle.reader.specs.declared.Opened.{Opened}
-use Rattle.reader.specs.declared.Opened.TheVariants.{Ready, TooLong, NotUtf8}
 use Rattle.reader.specs.declared.Opening.{Opening}
-use Rattle.reader.specs.declared.Found.{Found}
-use Rattle.reader.specs.declared.Found.TheVariants.{Next, NoMore}
 use Rattle.reader.specs.declared.Turn.{Turn}
+use Rattle.std.specs.Prelude.{Err, None, Ok, Option, Result, Some, ⊤}
+use Rattle.limits.specs.declared.TextRefusal.{TextRefusal}
+use Rattle.limits.specs.Limits.{admitted, refusal_of}
 
 -- "Opening tests 1 and 2 and starts at 0; if refused, the reader stands at the text's length."
+abbrev pub opened : Result ⊤ TextRefusal → ℕ → Opening
+opened (Ok u) n = record { answer = Ok u; at = record { 0 = 0 } }
+opened (Err why) n = record { answer = Err why; at = record { 0 = n } }
+
 unfoldable pub opening_of : List ℕ → Opening
-opening_of s =
-    pick (ltb text_most (length s)) (record { answer = TooLong (record { 0 = length s }); at = record { 0 = length s } })
-    (pick (ltb (first_fault s) (length s)) (record { answer = NotUtf8 (record { 0 = first_fault s }); at = record { 0 = length s } })
-    (record { answer = Ready; at = record { 0 = 0 } }))
+opening_of s = opened (admitted text_most s) (length s)
 
 -- The document's numbers: 0 with count 0; 1 with the length; 2 with the first fault.
-unfoldable pub answer_of : Opened → Answer
-answer_of Ready = success 0
-answer_of (TooLong l) = refusal 1 l.0
-answer_of (NotUtf8 o) = refusal 2 o.0
+unfoldable pub answer_of : Result ⊤ TextRefusal → Answer
+answer_of (Ok u) = success 0
+answer_of (Err why) = refusal_of why
 
 -- ""no more" .., the offset staying"
 abbrev pub stay : ℕ → Turn
-stay i = record { found = NoMore; next = record { 0 = i } }
+stay i = record { found = None; next = record { 0 = i } }
 
 -- What the step answers, as the reader's: a word; no more at the end; "also "no more" if .. a fault as in 2 lies in the word to be read".
 abbrev pub to_turn : ℕ → Step → Turn
-to_turn i (step.Found w o) = record { found = Next w; next = o }
+to_turn i (step.Found w o) = record { found = Some w; next = o }
 to_turn i step.End = stay i
 to_turn i (step.Fault o) = stay i
 
@@ -45,9 +43,9 @@ unfoldable pub turn_of : List ℕ → ℕ → Turn
 turn_of s i = pick (ltb text_most (length s)) (stay i) (to_turn i (step_at s i))
 
 -- The words that n calls answer, one after the other, from the offset i on: "no more" adds none.
-abbrev pub found : Found → List Word → List Word
-found (Next w) ws = w ∷ ws
-found NoMore ws = ws
+abbrev pub found : Option Word → List Word → List Word
+found (Some w) ws = w ∷ ws
+found None ws = ws
 
 unfoldable pub answers : ℕ → List ℕ → ℕ → List Word
 answers zero s i = []

@@ -10,7 +10,7 @@ ghost use Rattle.std.specs.Prelude.{◌≡◌, ltb, length};
 ghost use Rattle.units.specs.Limits.{text_most};
 ghost use Rattle.reader.specs.Reader.{opening_of, answer_of, turn_of, stay};
 
-use chars::Checked;
+use limits::TextRefusal;
 use units::{Answer, Offset, TEXT_MOST};
 use words::{Step, Word};
 
@@ -21,32 +21,17 @@ pub struct Reader<'a> {
     pub at: Offset,
 }
 
-// What opening finds: a text that can be read; or its length, where it is too long; or its first fault.
-#[derive(Clone, Copy)]
-pub enum Opened {
-    Ready,
-    TooLong(Offset),
-    NotUtf8(Offset),
-}
-
 // What opening finds, and where the reader then stands.
 #[derive(Clone, Copy)]
 pub struct Opening {
-    pub answer: Opened,
+    pub answer: Result<(), TextRefusal>,
     pub at: Offset,
-}
-
-// The word to be read, or no more.
-#[derive(Clone, Copy)]
-pub enum Found {
-    Next(Word),
-    NoMore,
 }
 
 // What a reader answers, and where it then stands.
 #[derive(Clone, Copy)]
 pub struct Turn {
-    pub found: Found,
+    pub found: Option<Word>,
     pub next: Offset,
 }
 
@@ -58,36 +43,31 @@ fn is_long(text: &[u8]) -> bool
 }
 
 // What opening a text finds, and where a reader of it starts.
+#[tactic(auto, using(crate::proofs::Turning::opening))]
 pub fn open_at(text: &[u8]) -> Opening
     ensures { result ≡ opening_of text.now }
 {
     let end = Offset(text.len());
-    if is_long(text) {
-        return Opening {
-            answer: Opened::TooLong(end),
-            at: end,
-        };
-    }
-    match chars::first_fault(text) {
-        Checked::Whole => Opening {
-            answer: Opened::Ready,
+    match limits::admit(text, TEXT_MOST) {
+        Ok(()) => Opening {
+            answer: Ok(()),
             at: Offset(0),
         },
-        Checked::Fault(fault) => Opening {
-            answer: Opened::NotUtf8(fault),
+        Err(why) => Opening {
+            answer: Err(why),
             at: end,
         },
     }
 }
 
 // The numbers of document 01 for what opening finds.
-pub fn answer_of(o: Opened) -> Answer
+#[tactic(auto, unfolding(crate::specs::Reader::answer_of))]
+pub fn answer_of(o: Result<(), TextRefusal>) -> Answer
     ensures { result ≡ answer_of o }
 {
     match o {
-        Opened::Ready => units::done(0),
-        Opened::TooLong(length) => units::refused(1, length.0),
-        Opened::NotUtf8(at) => units::refused(2, at.0),
+        Ok(()) => units::done(0),
+        Err(why) => Answer::from(why),
     }
 }
 
@@ -96,12 +76,13 @@ fn no_more(at: Offset) -> Turn
     ensures { result ≡ stay at.0 }
 {
     Turn {
-        found: Found::NoMore,
+        found: None,
         next: at,
     }
 }
 
 // What a reader of a text that stands at an offset answers, and where it then stands.
+#[tactic(auto, using(crate::proofs::Turning::turning))]
 fn turn_at(text: &[u8], at: Offset) -> Turn
     ensures { result ≡ turn_of text.now at.0 }
 {
@@ -110,7 +91,7 @@ fn turn_at(text: &[u8], at: Offset) -> Turn
     }
     match words::next_word(text, at) {
         Step::Found(word, next) => Turn {
-            found: Found::Next(word),
+            found: Some(word),
             next,
         },
         Step::End => no_more(at),

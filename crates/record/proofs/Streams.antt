@@ -8,19 +8,21 @@ use lib.Dec.{ltb, eqb}
 use lib.ListN.{length, take, drop, get_or}
 use lib.Seq.{take-append_seam, drop-append_seam, take_all}
 use borrow.Author.Tests.{ltb-false, lt-ltb, le-ltb, not-true}
+use Rattle.std.specs.Prelude.{Option, Some, None, Result, Ok, Err}
 use Rattle.units.specs.declared.Answer.{Answer}
 use Rattle.units.specs.Limits.{text_most}
 use Rattle.units.specs.Answers.{refusal}
 use Rattle.logic.specs.Choice.{pick}
 use Rattle.logic.proofs.Choice.{both}
-use Rattle.fill.specs.declared.Filled.{Filled}
-use Rattle.fill.specs.declared.Filled.TheVariants.{Changed, TooLong, NotUtf8, TooWide}
-use Rattle.fill.specs.Fill.{fill_of, answer_of}
-use Rattle.record.specs.declared.Head.{Head}
-use Rattle.record.specs.declared.Head.TheVariants.{End, Refused, Job}
+use Rattle.fill.specs.Fill.{fill_of}
+use Rattle.limits.specs.Limits.{answer_of}
+use Rattle.record.specs.declared.Job.{Job}
 use Rattle.record.specs.Record.{head_bytes, is_job, head_of, answer_to, text_after, reply_of, settled, bytes_of}
 use Rattle.record.specs.Stream.{job_reply, job_bytes, served, goes_on, further_bytes, replies_after, replies, job_record, reply_record, last_reply}
 use Rattle.record.proofs.Heads.{head_wrong, head_short, head_job}
+use Rattle.std.specs.Prelude.{Err, Ok, Result}
+use Rattle.limits.specs.declared.TextRefusal.{TextRefusal}
+use Rattle.limits.specs.declared.TextRefusal.TheVariants.{NoRoom, NotUtf8, TooLong, TooWide}
 
 -- ---- an input from its first record on
 
@@ -37,7 +39,7 @@ unfolding replies_after head_of
 from_first [] = refl
 from_first (a ∷ t) = rw (after_drop (further_bytes (head_of (a ∷ t))) t)
 
-module _ (s : List ℕ) {h : Head} (e : head_of s ≡ h) where
+module _ (s : List ℕ) {h : Result (Option Job) Answer} (e : head_of s ≡ h) where
   goes_on_lem : goes_on h (drop head_bytes s) ≡ true → replies s ≡ served h (drop head_bytes s) ++ replies (drop (suc (further_bytes h)) s)
   goes_on_lem g = rw (from_first s, e, g)
 
@@ -53,8 +55,8 @@ head_first (a ∷ b ∷ c ∷ []) = refl
 head_first (a ∷ b ∷ c ∷ d ∷ []) = refl
 head_first (a ∷ b ∷ c ∷ d ∷ e ∷ t) =
     both (is_job a b)
-    (λ p. sym (head_job (a ∷ b ∷ c ∷ d ∷ e ∷ []) (sym p) refl (omega arith) refl) ∙ head_job (a ∷ b ∷ c ∷ d ∷ e ∷ t) (sym p) refl (omega arith) refl)
-    (λ p. sym (head_wrong (a ∷ b ∷ c ∷ d ∷ e ∷ []) (omega arith) (sym p) refl refl) ∙ head_wrong (a ∷ b ∷ c ∷ d ∷ e ∷ t) (omega arith) (sym p) refl refl)
+    (λ p. head_job (a ∷ b ∷ c ∷ d ∷ e ∷ []) (omega arith) p (omega arith) ∙ sym (head_job (a ∷ b ∷ c ∷ d ∷ e ∷ t) (omega arith) p (omega arith)))
+    (λ p. head_wrong (a ∷ b ∷ c ∷ d ∷ e ∷ []) (omega arith) p ∙ sym (head_wrong (a ∷ b ∷ c ∷ d ∷ e ∷ t) (omega arith) p))
 
 -- What stands in the buffer counts only where all of the text came and is kept: then it is the text.
 module _ (w n : ℕ) (rest text : List ℕ) (came : ℕ) (c : came ≡ length (take n rest)) (k : n ≤ came → n ≤ text_most → text ≡ take n rest) where
@@ -81,10 +83,10 @@ module _ (w n : ℕ) (rest text : List ℕ) (came : ℕ) (c : came ≡ length (t
 -- ---- what the program does at a record
 
 -- What is refused by its head is 13 or 14.
-stops_at : Head → Bool
-stops_at End = true
-stops_at (Refused a) = not (reply_of a 0).more
-stops_at (Job w n) = true
+stops_at : Result (Option Job) Answer → Bool
+stops_at (Ok None) = true
+stops_at (Err a) = not (reply_of a 0).more
+stops_at (Ok (Some j)) = true
 
 head_stops : (h : List ℕ) → stops_at (head_of h) ≡ true
 unfolding stops_at head_of reply_of
@@ -100,33 +102,34 @@ head_stops h =
 -- The program, at an input s of which it reads the first five bytes, or all that there is.
 module _ (s : List ℕ) where
   -- Nothing came: it stops silently.
-  pub at_end : head_of (take head_bytes s) ≡ End → replies s ≡ []
+  pub at_end : head_of (take head_bytes s) ≡ Ok None → replies s ≡ []
   at_end e = rw (from_first s, sym (head_first s) ∙ e)
 
   -- The head is refused: it replies, and stops.
-  pub at_refused : {a : Answer} → head_of (take head_bytes s) ≡ Refused a → (replies s ≡ bytes_of (reply_of a 0) []) × ((reply_of a 0).more ≡ false)
+  pub at_refused : {a : Answer} → head_of (take head_bytes s) ≡ Err a → (replies s ≡ bytes_of (reply_of a 0) []) × ((reply_of a 0).more ≡ false)
   unfolding stops_at
   at_refused {a} e =
-      let h : head_of s ≡ Refused a = sym (head_first s) ∙ e in
+      let h : head_of s ≡ Err a = sym (head_first s) ∙ e in
       (rw (from_first s, h) (append-nil (bytes_of (reply_of a 0) [])), not-true (reply_of a 0).more (rw h at (head_stops s)))
 
   -- A job: it reads the text as far as the input goes, replies, and goes on after the text where the reply says so.
-  pub at_job : {w n : ℕ} (text : List ℕ) (came : ℕ) → head_of (take head_bytes s) ≡ Job w n → came ≡ length (take n (drop head_bytes s))
+  pub at_job : {w n : ℕ} (text : List ℕ) (came : ℕ) → head_of (take head_bytes s) ≡ Ok (Some (record { width = w; len = n })) → came ≡ length (take n (drop head_bytes s))
       → (n ≤ came → n ≤ text_most → text ≡ take n (drop head_bytes s))
       → replies s ≡ bytes_of (settled w n came text) (text_after w n came text) ++ pick (settled w n came text).more (replies (drop (head_bytes + n) s)) []
   at_job {w} {n} text came e c k =
-      let h : head_of s ≡ Job w n = sym (head_first s) ∙ e in
+      let h : head_of s ≡ Ok (Some (record { width = w; len = n })) = sym (head_first s) ∙ e in
       let five : head_bytes + n ≡ suc (4 + n) = omega arith in
       rw (from_first s, h, five, job_bytes_lem w n (drop head_bytes s) text came c k, job_more w n (drop head_bytes s) text came c k)
 
 -- ---- whole jobs
 
-filled_more : (f : Filled) (n : ℕ) → (reply_of (answer_of f) n).more ≡ true
+filled_more : (f : Result ℕ TextRefusal) (n : ℕ) → (reply_of (answer_of f) n).more ≡ true
 unfolding answer_of reply_of
-filled_more (Changed k) n = refl
-filled_more (TooLong l) n = refl
-filled_more (NotUtf8 o) n = refl
-filled_more TooWide n = refl
+filled_more (Ok k) n = refl
+filled_more (Err (TooLong l)) n = refl
+filled_more (Err (NotUtf8 o)) n = refl
+filled_more (Err TooWide) n = refl
+filled_more (Err (NoRoom k)) n = refl
 
 long_more : (n : ℕ) → (reply_of (refusal 1 n) n).more ≡ true
 unfolding reply_of
@@ -143,7 +146,7 @@ pub answered : (w : ℕ) (text rest : List ℕ) → length text ≤ 65535 → re
 answered w text rest l =
     let s : List ℕ = job_record w text ++ rest in
     let size : length text ≡ length text / 256 % 256 * 256 + length text % 256 = omega arith in
-    let h : head_of s ≡ Job w (length text) = sym (head_job s {m = true} refl refl (omega arith) size) in
+    let h : head_of s ≡ Ok (Some (record { width = w; len = length text })) = head_job s (omega arith) refl (omega arith) ∙ rw (← size) in
     let four : 4 + length text ≡ suc (suc (suc (suc (length text)))) = omega arith in
     let on : (job_reply w (length text) (text ++ rest)).more ≡ true = rw (take-append_seam text rest) (whole_more w text) in
     goes_on_lem s h on ∙ rw (four, take-append_seam text rest, drop-append_seam text rest)
@@ -159,20 +162,18 @@ one_byte a = rw (from_first (a ∷ []))
 pub wrong_mark : (a b : ℕ) (t : List ℕ) → is_job a b ≡ false → replies (a ∷ b ∷ t) ≡ last_reply 13
 unfolding reply_of
 wrong_mark a b t e =
-    let h = head_wrong (a ∷ b ∷ t) {m = false} (omega arith) (sym e) refl refl in
-    rw (from_first (a ∷ b ∷ t), ← h)
+    rw (from_first (a ∷ b ∷ t), head_wrong (a ∷ b ∷ t) (omega arith) e)
 
 pub cut_head : (t : List ℕ) → length t < 3 → replies (0x57 ∷ 0x4A ∷ t) ≡ last_reply 14
 unfolding reply_of
 cut_head t l =
-    let h = head_short (0x57 ∷ 0x4A ∷ t) {m = true} (omega arith) refl refl (omega arith) refl in
-    rw (from_first (0x57 ∷ 0x4A ∷ t), ← h)
+    rw (from_first (0x57 ∷ 0x4A ∷ t), head_short (0x57 ∷ 0x4A ∷ t) (omega arith) refl (omega arith))
 
 -- "14 goes before 1": also where the text is too long.
 pub cut_text : (w high low : ℕ) (t : List ℕ) → length t < high * 256 + low → replies (0x57 ∷ 0x4A ∷ w ∷ high ∷ low ∷ t) ≡ last_reply 14
 unfolding reply_of answer_to
 cut_text w high low t l =
     let s : List ℕ = 0x57 ∷ 0x4A ∷ w ∷ high ∷ low ∷ t in
-    let h : head_of s ≡ Job w (high * 256 + low) = sym (head_job s {m = true} refl refl (omega arith) refl) in
+    let h : head_of s ≡ Ok (Some (record { width = w; len = high * 256 + low })) = head_job s (omega arith) refl (omega arith) in
     let cut : job_reply w (high * 256 + low) t ≡ reply_of (refusal 14 0) (high * 256 + low) = rw (take_all (high * 256 + low) t (omega arith), lt-ltb (length t) (high * 256 + low) l) in
     stops_there s h (ap (λ r. r.more) cut) ∙ rw cut

@@ -1,13 +1,13 @@
 -- Document 01, "Job program": what a job's head asks for, what is answered to a job, and the bytes of a reply.
-use Rattle.std.specs.Prelude.{ℕ, ◌+◌, ◌-◌, ◌*◌, ◌%◌, min, Bool, true, false, not, ◌&&◌, ◌||◌, List, [], ◌∷◌, ◌++◌, ltb, eqb, length, get_or}
+use Rattle.std.specs.Prelude.{ℕ, ◌+◌, ◌-◌, ◌*◌, ◌%◌, min, Bool, true, false, not, ◌&&◌, ◌||◌, List, [], ◌∷◌, ◌++◌, ltb, eqb, length, get_or, Option, Some, None, Result, Ok, Err}
 use Rattle.units.specs.declared.Answer.{Answer}
 use Rattle.units.specs.Limits.{text_most}
 use Rattle.units.specs.Answers.{refusal}
 use Rattle.logic.specs.Choice.{pick}
 use Rattle.wire.specs.Wire.{be16}
-use Rattle.fill.specs.Fill.{fill_of, leaves, answer_of}
-use Rattle.record.specs.declared.Head.{Head}
-use Rattle.record.specs.declared.Head.TheVariants.{End, Refused, Job}
+use Rattle.fill.specs.Fill.{fill_of, leaves}
+use Rattle.limits.specs.Limits.{answer_of}
+use Rattle.record.specs.declared.Job.{Job}
 use Rattle.record.specs.declared.Reply.{Reply}
 
 -- ---- a job
@@ -20,13 +20,13 @@ abbrev pub is_job : ℕ → ℕ → Bool
 is_job a b = eqb a 0x57 && eqb b 0x4A
 
 -- What the bytes at the start of a record are, by the first five of them or all that came. "13 needs two bytes present, a single byte is 14"
-unfoldable pub head_of : List ℕ → Head
+unfoldable pub head_of : List ℕ → Result (Option Job) Answer
 head_of h =
-    pick (eqb (length h) 0) End
-    (pick (ltb (length h) 2) (Refused (refusal 14 0))
+    pick (eqb (length h) 0) (Ok None)
+    (pick (ltb (length h) 2) (Err (refusal 14 0))
     (pick (is_job (get_or h 0 0) (get_or h 1 0))
-    (pick (ltb (length h) head_bytes) (Refused (refusal 14 0)) (Job (get_or h 2 0) (get_or h 3 0 * 256 + get_or h 4 0)))
-    (Refused (refusal 13 0))))
+    (pick (ltb (length h) head_bytes) (Err (refusal 14 0)) (Ok (Some (record { width = get_or h 2 0; len = get_or h 3 0 * 256 + get_or h 4 0 }))))
+    (Err (refusal 13 0))))
 
 -- "The program keeps one 60,000-byte text buffer": how much of a text it keeps, and how much more it reads past.
 abbrev pub kept_of : ℕ → ℕ

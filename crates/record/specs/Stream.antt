@@ -1,8 +1,8 @@
 -- Document 01, "Job program": the replies to a whole input, from its first byte to its last.
-use Rattle.std.specs.Prelude.{ℕ, zero, suc, ◌+◌, Bool, false, List, [], ◌∷◌, ◌++◌, length, take, drop}
+use Rattle.std.specs.Prelude.{ℕ, zero, suc, ◌+◌, Bool, false, List, [], ◌∷◌, ◌++◌, length, take, drop, Option, Some, None, Result, Ok, Err}
 use Rattle.logic.specs.Choice.{pick}
-use Rattle.record.specs.declared.Head.{Head}
-use Rattle.record.specs.declared.Head.TheVariants.{End, Refused, Job}
+use Rattle.units.specs.declared.Answer.{Answer}
+use Rattle.record.specs.declared.Job.{Job}
 use Rattle.record.specs.declared.Reply.{Reply}
 use Rattle.wire.specs.Wire.{be16}
 use Rattle.record.specs.Record.{head_of, settled, text_after, reply_head, reply_of, bytes_of}
@@ -15,22 +15,22 @@ abbrev pub job_bytes : ℕ → ℕ → List ℕ → List ℕ
 job_bytes w n rest = bytes_of (job_reply w n rest) (text_after w n (length (take n rest)) (take n rest))
 
 -- What is written to a record with a head, and `rest` after the head;
-abbrev pub served : Head → List ℕ → List ℕ
-served End rest = []
-served (Refused a) rest = bytes_of (reply_of a 0) []
-served (Job w n) rest = job_bytes w n rest
+abbrev pub served : Result (Option Job) Answer → List ℕ → List ℕ
+served (Ok None) rest = []
+served (Err a) rest = bytes_of (reply_of a 0) []
+served (Ok (Some j)) rest = job_bytes j.width j.len rest
 
 -- whether the program goes on after it: "It .. stops silently at the end of input between records. After 1 it reads past the text and goes on. After replying 13 or 14 it stops";
-abbrev pub goes_on : Head → List ℕ → Bool
-goes_on End rest = false
-goes_on (Refused a) rest = false
-goes_on (Job w n) rest = (job_reply w n rest).more
+abbrev pub goes_on : Result (Option Job) Answer → List ℕ → Bool
+goes_on (Ok None) rest = false
+goes_on (Err a) rest = false
+goes_on (Ok (Some j)) rest = (job_reply j.width j.len rest).more
 
 -- and how many bytes the record has after its first one.
-abbrev pub further_bytes : Head → ℕ
-further_bytes End = 0
-further_bytes (Refused a) = 0
-further_bytes (Job w n) = 4 + n
+abbrev pub further_bytes : Result (Option Job) Answer → ℕ
+further_bytes (Ok None) = 0
+further_bytes (Err a) = 0
+further_bytes (Ok (Some j)) = 4 + j.len
 
 -- "It answers jobs in order": the replies to what comes after the first k bytes of an input,
 unfoldable pub replies_after : ℕ → List ℕ → List ℕ

@@ -6,26 +6,16 @@
 ghost use Rattle.std.specs.Prelude.{◌≡◌, ◌<◌, ◌+◌, ◌*◌, ◌/◌, ◌%◌};
 ghost use Rattle.record.specs.Record.{is_job, head_of, kept_of, past_of, reply_head, reply_of, text_after, settled};
 
-use units::{Answer, TEXT_MOST};
+use units::{Answer, Refusal, TEXT_MOST};
 
 // The bytes of a job before its text.
 pub const HEAD_BYTES: usize = 5;
 
-// The numbers of document 01 that the program gives: a text that is too long, a wrong mark, and an input
-// that ends inside a record.
-const TOO_LONG: u32 = 1;
-
-const WRONG_MARK: u32 = 13;
-
-const CUT: u32 = 14;
-
-// What the start of a record is: nothing, where the input ends between two records; what is refused; or
-// the head of a job, with its line width and the length of its text.
+// The head of a job: its line width, and the length of its text.
 #[derive(Clone, Copy)]
-pub enum Head {
-    End,
-    Refused(Answer),
-    Job { width: u8, len: u16 },
+pub struct Job {
+    pub width: u8,
+    pub len: u16,
 }
 
 // What is written in reply: a head, and whether the text follows it; and whether a further record is read.
@@ -36,48 +26,21 @@ pub struct Reply {
     pub more: bool,
 }
 
-// Whether two bytes are the mark of a job.
-fn is_job(a: u8, b: u8) -> bool
-    ensures { result ≡ is_job a b }
-{
-    let mark = b"WJ";
-    (a == mark[0]) & (b == mark[1])
-}
-
-// The number of two bytes, high first.
-fn number_of(high: u8, low: u8) -> u16
-    ensures { result ≡ high * 256 + low }
-{
-    let a = wide(high);
-    let b = wide(low);
-    a * 256 + b
-}
-
-fn wide(b: u8) -> u16
-    ensures { (result ≡ b) × (result < 256) }
-{
-    b as u16
-}
-
-// What the bytes that came of a record's head are.
-pub fn head_of(head: &[u8]) -> Head
+// What the bytes that came of a record's head are: the head of a job; nothing, where the input ends
+// between two records; or what is refused.
+#[tactic(auto, unfolding(crate::specs::Record::head_of))]
+pub fn head_of(head: &[u8]) -> Result<Option<Job>, Answer>
     ensures { result ≡ head_of head.now }
 {
-    if head.len() == 0 {
-        return Head::End;
-    }
-    if head.len() < 2 {
-        return Head::Refused(units::refused(CUT, 0));
-    }
-    if !is_job(head[0], head[1]) {
-        return Head::Refused(units::refused(WRONG_MARK, 0));
-    }
-    if head.len() < HEAD_BYTES {
-        return Head::Refused(units::refused(CUT, 0));
-    }
-    Head::Job {
-        width: head[2],
-        len: number_of(head[3], head[4]),
+    match head {
+        [] => Ok(None),
+        [_] => Err(Refusal::Cut.at(0)),
+        [first, second, ..] if [*first, *second] != *b"WJ" => Err(Refusal::WrongMark.at(0)),
+        [_, _, width, high, low, ..] => Ok(Some(Job {
+            width: *width,
+            len: u16::from_be_bytes([*high, *low]),
+        })),
+        _ => Err(Refusal::Cut.at(0)),
     }
 }
 
@@ -85,50 +48,29 @@ pub fn head_of(head: &[u8]) -> Head
 pub fn kept(len: u16) -> usize
     ensures { result ≡ kept_of len }
 {
-    let n = len as usize;
-    if n < TEXT_MOST { n } else { TEXT_MOST }
+    usize::from(len).min(TEXT_MOST)
 }
 
 // How many bytes of a text are read past after those that are kept.
 pub fn past(len: u16) -> usize
     ensures { result ≡ past_of len }
 {
-    let n = len as usize;
-    if n < TEXT_MOST { 0 } else { n - TEXT_MOST }
-}
-
-// The higher of a number's last two bytes.
-fn high(v: u64) -> u8
-    ensures { result ≡ v / 256 % 256 }
-{
-    (v / 256 % 256) as u8
-}
-
-// A number's last byte.
-fn low(v: u64) -> u8
-    ensures { result ≡ v % 256 }
-{
-    (v % 256) as u8
+    usize::from(len).saturating_sub(TEXT_MOST)
 }
 
 // The head of a reply: its mark, the answer, the count or place, and the length of the text.
 fn reply_head(number: u32, value: u64, len: u16) -> [u8; 7]
     ensures { result ≡ reply_head number value len }
 {
-    let mark = b"WR";
-    let n = len as u64;
-    [
-        mark[0],
-        mark[1],
-        low(number as u64),
-        high(value),
-        low(value),
-        high(n),
-        low(n),
-    ]
+    let [.., answer] = number.to_be_bytes();
+    let [.., value_high, value_low] = value.to_be_bytes();
+    let [len_high, len_low] = len.to_be_bytes();
+    let [w, r] = *b"WR";
+    [w, r, answer, value_high, value_low, len_high, len_low]
 }
 
 // The reply that gives an answer to a record whose text has a length.
+#[tactic(auto, unfolding(crate::specs::Record::reply_of))]
 pub fn reply_of(answer: Answer, len: u16) -> Reply
     ensures { result ≡ reply_of answer len }
 {
@@ -140,26 +82,28 @@ pub fn reply_of(answer: Answer, len: u16) -> Reply
             more: true,
         };
     }
+    let stops = number == Refusal::WrongMark.number() || number == Refusal::Cut.number();
     Reply {
         head: reply_head(number, answer.place, 0),
         filled: false,
-        more: !((number == WRONG_MARK) | (number == CUT)),
+        more: !stops,
     }
 }
 
 // Fills the text of a job, of whose bytes so many came, and answers the reply; on refusal the text stays
 // as it was.
-pub fn settle(text: &mut [u8], width: u8, len: u16, came: usize) -> Reply
-    ensures value { result ≡ settled width len came text.old }
-    ensures text_after { text.new ≡ text_after width len came text.old }
+#[tactic(auto, unfolding(crate::specs::Record::answer_to, crate::specs::Record::text_after))]
+pub fn settle(text: &mut [u8], job: Job, came: usize) -> Reply
+    ensures value { result ≡ settled job.width job.len came text.old }
+    ensures text_after { text.new ≡ text_after job.width job.len came text.old }
 {
-    let n = len as usize;
+    let n = usize::from(job.len);
     if came < n {
-        return reply_of(units::refused(CUT, 0), len);
+        return reply_of(Refusal::Cut.at(0), job.len);
     }
     if TEXT_MOST < n {
-        return reply_of(units::refused(TOO_LONG, n), len);
+        return reply_of(Refusal::TooLong.at(n), job.len);
     }
-    let filled = fill::fill_inplace(text, width as u32);
-    reply_of(fill::answer_of(filled), len)
+    let filled = fill::fill_inplace(text, u32::from(job.width));
+    reply_of(limits::answer_of(filled), job.len)
 }

@@ -3,8 +3,9 @@
 #![tactic(auto)]
 
 use refusals::LINE_MOST;
+use saying::Line;
 use std::io;
-use units::Answer;
+use units::{Answer, Refusal};
 
 const WIDTH: u32 = 42;
 
@@ -12,25 +13,23 @@ const BEFORE: usize = 12;
 
 const AFTER: usize = 13;
 
-const SPACE: u8 = 0x20;
-
-const NEWLINE: u8 = 0x0A;
-
 // Writes the sentence of a number.
 fn put_sentence(rt: &HostRuntime, number: u32) -> io::Result<()> {
-    let mut line = [0u8; LINE_MOST];
-    let first = saying::say_number(&mut line, 0, number as u64);
-    let second = saying::say_byte(&mut line, first, SPACE);
-    let third = refusals::say_sentence(&mut line, second, number, WIDTH, BEFORE, AFTER);
-    let end = saying::say_byte(&mut line, third, NEWLINE);
-    rt.write_all(&line[..end])
+    let mut room = [0u8; LINE_MOST];
+    let mut line = Line::new(&mut room);
+    line.say_number(number as u64);
+    line.say(b" ");
+    refusals::say_sentence(&mut line, number, WIDTH, BEFORE, AFTER);
+    line.say(b"\n");
+    rt.write_all(line.as_bytes())
 }
 
 // Writes the line of a refusal.
 fn put_line(rt: &HostRuntime, answer: Answer, before: &[u8], after: &[u8]) -> io::Result<()> {
-    let mut line = [0u8; LINE_MOST];
-    let end = refusals::refusal_line(&mut line, answer, WIDTH, before, after);
-    rt.write_all(&line[..end])
+    let mut room = [0u8; LINE_MOST];
+    let mut line = Line::new(&mut room);
+    refusals::refusal_line(&mut line, answer, WIDTH, before, after);
+    rt.write_all(line.as_bytes())
 }
 
 // Writes the sentences of the table, and those of the numbers before and after it.
@@ -43,21 +42,21 @@ fn put_sentences(rt: &HostRuntime) -> io::Result<()> {
 
 fn main(rt: HostRuntime) -> io::Result<()> {
     put_sentences(&rt)?;
-    put_line(&rt, units::refused(11, 0), b"a b", b"a b")?;
+    put_line(&rt, Refusal::WideLine.at(0), b"a b", b"a b")?;
     put_line(
         &rt,
-        units::refused(10, 7),
+        Refusal::BadChange.at(7),
         b"abc d\xC3\xA9 f",
         b"abc\nd\xC3\xA9 f",
     )?;
     put_line(
         &rt,
-        units::refused(12, 8),
+        Refusal::ManyLines.at(8),
         b"abc d\xC3\xA9\nf",
         b"abc\nd\xC3\xA9\nf",
     )?;
-    put_line(&rt, units::refused(2, 3), b"abc\xFF", b"abc\xFF")?;
-    put_line(&rt, units::refused(9, 0), b"abc", b"abcd")?;
-    put_line(&rt, units::refused(3, 0), b"abc", b"abc")?;
-    put_line(&rt, units::refused(1, 60001), b"abc", b"abc")
+    put_line(&rt, Refusal::NotUtf8.at(3), b"abc\xFF", b"abc\xFF")?;
+    put_line(&rt, Refusal::Lengths.at(0), b"abc", b"abcd")?;
+    put_line(&rt, Refusal::TooWide.at(0), b"abc", b"abc")?;
+    put_line(&rt, Refusal::TooLong.at(60001), b"abc", b"abc")
 }

@@ -1,7 +1,13 @@
 -- The sentences for all refusals, in one place. docs/REFUSALS.md has the same, word for word.
-use Rattle.std.specs.Prelude.{ℕ, List, [], ◌∷◌, ◌++◌, get_or}
+use Rattle.std.specs.Prelude.{ℕ, ◌≡◌, ◌<◌, List, [], ◌∷◌, ◌++◌, get_or, Option, MatchOption}
+use Rattle.units.specs.declared.Refusal.{Refusal}
+use Rattle.units.specs.Numbers.{number_of}
 use Rattle.saying.specs.Saying.{decimal_of}
 use Rattle.saying.specs.Ascii.{ascii}
+
+-- A refusal has the number; or none has.
+abbrev pub Numbers : ℕ → Option Refusal → Type 0
+Numbers number why = MatchOption why (0 < number → 14 < number) (λ r. number_of r ≡ number)
 
 -- 0 is no refusal, and what comes after 14 is not in document 01.
 abbrev pub unknown : List ℕ

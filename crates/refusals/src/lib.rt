@@ -3,31 +3,18 @@
 // the same for the handbook. When a refusal comes is not decided here.
 #![tactic(auto)]
 
-ghost use Rattle.std.specs.Prelude.{◌≡◌, ◌+◌, ◌≤◌, min, length};
-ghost use Rattle.saying.specs.Saying.{Said};
+ghost use Rattle.std.specs.Prelude.{◌≡◌, ℕ, ◌+◌, ◌≤◌, length};
+ghost use Rattle.units.specs.Numbers.{number_of};
+ghost use Rattle.saying.specs.Saying.{HasRoom, Said};
 ghost use Rattle.refusals.specs.Places.{starts_character, spot_of};
-ghost use Rattle.refusals.specs.Sentences.{sentence_most, sentence, lengths_differ, columns_most, in_columns};
+ghost use Rattle.refusals.specs.Sentences.{Numbers, sentence_most, sentence, lengths_differ, columns_most, in_columns};
 ghost use Rattle.refusals.specs.Lines.{line_most, has_place, in_after, shown_place, place_words, spot_most, place_part, parting_most, parting_part, refusal_line};
 
-use saying::{say, say_byte, say_named};
-use units::{Answer, TEXT_MOST};
+use saying::Line;
+use units::{Answer, Refusal, TEXT_MOST};
 
-// The longest line of a refusal: a buffer of so many bytes has room for any.
+// The longest line of a refusal: a room of so many bytes has room for any.
 pub const LINE_MOST: usize = 384;
-
-// The numbers of document 01 whose place is a byte of a text; and 9, with which the place is told where
-// the texts part.
-const TOO_LONG: u32 = 1;
-
-const NOT_UTF8: u32 = 2;
-
-const LENGTHS: u32 = 9;
-
-const BAD_CHANGE: u32 = 10;
-
-const WIDE_LINE: u32 = 11;
-
-const MANY_LINES: u32 = 12;
 
 // A place of a text as a person finds it: the line, and the column in it, both from 1.
 #[derive(Clone, Copy)]
@@ -40,30 +27,20 @@ pub struct Spot {
 fn starts_character(b: u8) -> bool
     ensures { result ≡ starts_character b }
 {
-    !((0x80 <= b) & (b <= 0xBF))
-}
-
-fn smaller(a: usize, b: usize) -> usize
-    ensures { result ≡ min a b }
-{
-    if a < b { a } else { b }
+    !(0x80..=0xBF).contains(&b)
 }
 
 // Where a person finds the byte at a place of a text.
 pub fn spot_of(text: &[u8], place: usize) -> Spot
     ensures { result ≡ spot_of text.now place }
 {
-    let end = smaller(place, text.len());
-    let mut i = 0;
     let mut line = 1;
     let mut column = 1;
-    while i < end {
-        let b = text[i];
-        i += 1;
-        if lines::is_newline(b) {
+    for b in &text[..place.min(text.len())] {
+        if lines::is_newline(*b) {
             line += 1;
             column = 1;
-        } else if starts_character(b) {
+        } else if starts_character(*b) {
             column += 1;
         }
     }
@@ -71,174 +48,184 @@ pub fn spot_of(text: &[u8], place: usize) -> Spot
 }
 
 // Adds the sentence of 9, with both lengths.
-fn say_lengths(out: &mut [u8], at: usize, before: usize, after: usize) -> usize
-    requires { at + sentence_most ≤ length out.old }
-    ensures said { Said out.old at (lengths_differ before after) result out.new }
-    ensures upper_bound { result ≤ at + sentence_most }
+fn say_lengths(line: &mut Line<'_>, before: usize, after: usize)
+    requires { HasRoom line.old sentence_most }
+    ensures said { Said line.old (lengths_differ before after) line.new }
+    ensures upper_bound { line.new.len ≤ line.old.len + sentence_most }
 {
-    let first = say_named(out, at, b"the texts differ in length: ", before as u64);
-    let second = say_named(out, first, b" bytes before, ", after as u64);
-    say(out, second, b" after")
+    line.say_named(b"the texts differ in length: ", before as u64);
+    line.say_named(b" bytes before, ", after as u64);
+    line.say(b" after");
 }
 
 // Adds words, a number of columns, and that it is columns.
-fn say_columns(out: &mut [u8], at: usize, words: &[u8], columns: u32) -> usize
-    requires { at + length words.now + columns_most ≤ length out.old }
-    ensures said { Said out.old at (in_columns words.now columns) result out.new }
-    ensures upper_bound { result ≤ at + length words.now + columns_most }
+fn say_columns(line: &mut Line<'_>, words: &[u8], columns: u32)
+    requires { HasRoom line.old (length words.now + columns_most) }
+    ensures said { Said line.old (in_columns words.now columns) line.new }
+    ensures upper_bound { line.new.len ≤ line.old.len + length words.now + columns_most }
 {
-    let end = say_named(out, at, words, columns as u64);
-    say(out, end, b" columns")
+    line.say_named(words, columns as u64);
+    line.say(b" columns");
 }
 
-// Adds the sentence of a refusal: for a width, and the lengths of the text before and of the text after.
-pub fn say_sentence(
-    out: &mut [u8],
-    at: usize,
-    number: u32,
-    width: u32,
-    before: usize,
-    after: usize,
-) -> usize
-    requires { at + sentence_most ≤ length out.old }
-    ensures said { Said out.old at (sentence number width before after) result out.new }
-    ensures upper_bound { result ≤ at + sentence_most }
+// The refusal that has a number in document 01.
+fn numbered(number: u32) -> Option<Refusal>
+    ensures { Numbers number result }
 {
     match number {
-        1 => say(out, at, b"the text is longer than 60000 bytes"),
-        2 => say(out, at, b"this is not UTF-8: no character starts here"),
-        3 => say(out, at, b"the width is above 255 columns"),
-        4 => say(out, at, b"there are more than 4096 fragments"),
-        5 => say(out, at, b"the three lists of fragments differ in length"),
-        6 => say(out, at, b"a penalty is above 1000000"),
-        7 => say(out, at, b"a list that was lent is too short"),
-        8 => say(out, at, b"the least cost is above 9007199254740992"),
-        9 => say_lengths(out, at, before, after),
-        10 => say(
-            out,
-            at,
-            b"this change is no break: only the last space before a further word may become a newline",
-        ),
-        11 => say_columns(
-            out,
-            at,
-            b"a line of two or more words is wider than ",
-            width,
-        ),
-        12 => say(
-            out,
-            at,
-            b"the words of this line of the text before need fewer lines",
-        ),
-        13 => say(out, at, b"the record does not start with the mark of a job"),
-        14 => say(out, at, b"the input ends inside a record"),
-        _ => say(
-            out,
-            at,
-            b"this number has no sentence here: see the handbook",
-        ),
+        1 => Some(Refusal::TooLong),
+        2 => Some(Refusal::NotUtf8),
+        3 => Some(Refusal::TooWide),
+        4 => Some(Refusal::TooMany),
+        5 => Some(Refusal::Unequal),
+        6 => Some(Refusal::BigPenalty),
+        7 => Some(Refusal::NoRoom),
+        8 => Some(Refusal::TooDear),
+        9 => Some(Refusal::Lengths),
+        10 => Some(Refusal::BadChange),
+        11 => Some(Refusal::WideLine),
+        12 => Some(Refusal::ManyLines),
+        13 => Some(Refusal::WrongMark),
+        14 => Some(Refusal::Cut),
+        _ => None,
     }
 }
 
-// Whether the place of a refusal is a byte of a text.
-fn has_place(number: u32) -> bool
-    ensures { result ≡ has_place number }
+// Adds the sentence of a refusal, or that there is none.
+fn say_why(line: &mut Line<'_>, why: Option<Refusal>, width: u32, before: usize, after: usize)
+    requires { HasRoom line.old sentence_most }
+    ensures said { (number : ℕ) → Numbers number why → Said line.old (sentence number width before after) line.new }
+    ensures upper_bound { line.new.len ≤ line.old.len + sentence_most }
 {
-    (number == TOO_LONG)
-        | (number == NOT_UTF8)
-        | (number == BAD_CHANGE)
-        | (number == WIDE_LINE)
-        | (number == MANY_LINES)
+    let Some(why) = why else {
+        return line.say(b"this number has no sentence here: see the handbook");
+    };
+    match why {
+        Refusal::TooLong => line.say(b"the text is longer than 60000 bytes"),
+        Refusal::NotUtf8 => line.say(b"this is not UTF-8: no character starts here"),
+        Refusal::TooWide => line.say(b"the width is above 255 columns"),
+        Refusal::TooMany => line.say(b"there are more than 4096 fragments"),
+        Refusal::Unequal => line.say(b"the three lists of fragments differ in length"),
+        Refusal::BigPenalty => line.say(b"a penalty is above 1000000"),
+        Refusal::NoRoom => line.say(b"a list that was lent is too short"),
+        Refusal::TooDear => line.say(b"the least cost is above 9007199254740992"),
+        Refusal::Lengths => say_lengths(line, before, after),
+        Refusal::BadChange => line.say(
+            b"this change is no break: only the last space before a further word may become a newline",
+        ),
+        Refusal::WideLine => {
+            say_columns(line, b"a line of two or more words is wider than ", width)
+        }
+        Refusal::ManyLines => {
+            line.say(b"the words of this line of the text before need fewer lines")
+        }
+        Refusal::WrongMark => line.say(b"the record does not start with the mark of a job"),
+        Refusal::Cut => line.say(b"the input ends inside a record"),
+    }
+}
+
+// Adds the sentence of a refusal: for a width, and the lengths of the text before and of the text after.
+pub fn say_sentence(line: &mut Line<'_>, number: u32, width: u32, before: usize, after: usize)
+    requires { HasRoom line.old sentence_most }
+    ensures said { Said line.old (sentence number width before after) line.new }
+    ensures upper_bound { line.new.len ≤ line.old.len + sentence_most }
+{
+    say_why(line, numbered(number), width, before, after);
+}
+
+// Whether the place of a refusal is a byte of a text.
+fn has_place(why: Refusal) -> bool
+    ensures { result ≡ has_place (number_of why) }
+{
+    matches!(
+        why,
+        Refusal::TooLong
+            | Refusal::NotUtf8
+            | Refusal::BadChange
+            | Refusal::WideLine
+            | Refusal::ManyLines
+    )
 }
 
 // Whether a refusal is found in the text after, and not in the text before.
-fn in_after(number: u32, before: &[u8]) -> bool
-    ensures { result ≡ in_after number before.now }
+fn in_after(why: Refusal, before: &[u8]) -> bool
+    ensures { result ≡ in_after (number_of why) before.now }
 {
-    (number == BAD_CHANGE)
-        | (number == WIDE_LINE)
-        | ((number == TOO_LONG) & (before.len() <= TEXT_MOST))
+    match why {
+        Refusal::BadChange | Refusal::WideLine => true,
+        Refusal::TooLong => before.len() <= TEXT_MOST,
+        _ => false,
+    }
 }
 
 // The byte that is shown: of a text that is too long, the first one too many.
-fn shown_place(number: u32, place: u64) -> u64
-    ensures { result ≡ shown_place number place }
+fn shown_place(why: Refusal, place: u64) -> u64
+    ensures { result ≡ shown_place (number_of why) place }
 {
-    if number == TOO_LONG {
-        TEXT_MOST as u64
-    } else {
-        place
+    match why {
+        Refusal::TooLong => TEXT_MOST as u64,
+        _ => place,
     }
 }
 
 // Adds a byte of a text, and where a person finds it.
-fn say_spot(out: &mut [u8], at: usize, place: u64, text: &[u8]) -> usize
-    requires { at + spot_most ≤ length out.old }
-    ensures said { Said out.old at (place_words place text.now) result out.new }
-    ensures upper_bound { result ≤ at + spot_most }
+fn say_spot(line: &mut Line<'_>, place: u64, text: &[u8])
+    requires { HasRoom line.old spot_most }
+    ensures said { Said line.old (place_words place text.now) line.new }
+    ensures upper_bound { line.new.len ≤ line.old.len + spot_most }
 {
     let spot = spot_of(text, place as usize);
-    let first = say_named(out, at, b" at byte ", place);
-    let second = say_named(out, first, b" (line ", spot.line as u64);
-    let third = say_named(out, second, b", column ", spot.column as u64);
-    say(out, third, b")")
+    line.say_named(b" at byte ", place);
+    line.say_named(b" (line ", spot.line as u64);
+    line.say_named(b", column ", spot.column as u64);
+    line.say(b")");
 }
 
 // Adds the place of a refusal, where it has one in a text.
-fn say_place(
-    out: &mut [u8],
-    at: usize,
-    number: u32,
-    place: u64,
-    before: &[u8],
-    after: &[u8],
-) -> usize
-    requires { at + spot_most ≤ length out.old }
-    ensures said { Said out.old at (place_part number place before.now after.now) result out.new }
-    ensures upper_bound { result ≤ at + spot_most }
+fn say_place(line: &mut Line<'_>, why: Option<Refusal>, place: u64, before: &[u8], after: &[u8])
+    requires { HasRoom line.old spot_most }
+    ensures said { (number : ℕ) → Numbers number why → Said line.old (place_part number place before.now after.now) line.new }
+    ensures upper_bound { line.new.len ≤ line.old.len + spot_most }
 {
-    if !has_place(number) {
-        return at;
+    let Some(why) = why else {
+        return;
+    };
+    if !has_place(why) {
+        return;
     }
-    let shown = shown_place(number, place);
-    if in_after(number, before) {
-        return say_spot(out, at, shown, after);
+    let shown = shown_place(why, place);
+    if in_after(why, before) {
+        say_spot(line, shown, after);
+    } else {
+        say_spot(line, shown, before);
     }
-    say_spot(out, at, shown, before)
 }
 
 // Adds where two texts part, if the refusal is that they differ in length.
-fn say_parting(out: &mut [u8], at: usize, number: u32, before: &[u8], after: &[u8]) -> usize
-    requires { at + parting_most ≤ length out.old }
-    ensures said { Said out.old at (parting_part number before.now after.now) result out.new }
-    ensures upper_bound { result ≤ at + parting_most }
+fn say_parting(line: &mut Line<'_>, why: Option<Refusal>, before: &[u8], after: &[u8])
+    requires { HasRoom line.old parting_most }
+    ensures said { (number : ℕ) → Numbers number why → Said line.old (parting_part number before.now after.now) line.new }
+    ensures upper_bound { line.new.len ≤ line.old.len + parting_most }
 {
-    if number != LENGTHS {
-        return at;
+    if why == Some(Refusal::Lengths) {
+        let place = parting::parts_at(before, after);
+        line.say(b"; they part");
+        say_spot(line, place as u64, after);
     }
-    let place = parting::parts_at(before, after);
-    let named = say(out, at, b"; they part");
-    say_spot(out, named, place as u64, after)
 }
 
-// Puts the whole line of a refusal into a buffer, and answers how long it is. The check's refusals are
-// about a text before and a text after; those of one text alone take it twice.
-pub fn refusal_line(
-    out: &mut [u8],
-    answer: Answer,
-    width: u32,
-    before: &[u8],
-    after: &[u8],
-) -> usize
-    requires { line_most ≤ length out.old }
-    ensures said { Said out.old 0 (refusal_line answer width before.now after.now) result out.new }
-    ensures upper_bound { result ≤ line_most }
+// Adds the whole line of a refusal. The check's refusals are about a text before and a text after; those of
+// one text alone take it twice.
+pub fn refusal_line(line: &mut Line<'_>, answer: Answer, width: u32, before: &[u8], after: &[u8])
+    requires { HasRoom line.old line_most }
+    ensures said { Said line.old (refusal_line answer width before.now after.now) line.new }
+    ensures upper_bound { line.new.len ≤ line.old.len + line_most }
 {
-    let number = answer.number;
-    let first = say_named(out, 0, b"refused ", number as u64);
-    let second = say_place(out, first, number, answer.place, before, after);
-    let third = say(out, second, b": ");
-    let fourth = say_sentence(out, third, number, width, before.len(), after.len());
-    let fifth = say_parting(out, fourth, number, before, after);
-    say_byte(out, fifth, lines::NEWLINE)
+    let why = numbered(answer.number);
+    line.say_named(b"refused ", answer.number as u64);
+    say_place(line, why, answer.place, before, after);
+    line.say(b": ");
+    say_why(line, why, width, before.len(), after.len());
+    say_parting(line, why, before, after);
+    line.say_byte(lines::NEWLINE);
 }

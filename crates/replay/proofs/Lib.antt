@@ -1,6 +1,3 @@
-pub mod Same
-pub mod Heads
+pub mod Held
 pub mod Lists
-pub mod Texts
 pub mod Layouts
-pub mod Judging

@@ -1,5 +1,6 @@
 -- A stored answer, part by part: bytes, and numbers of two bytes each.
-use Rattle.std.specs.Prelude.{ℕ, ◌+◌, ◌-◌, ◌*◌, Bool, true, false, ◌&&◌, List, [], ◌∷◌, eqb, length, take, drop, get_or}
+use Rattle.std.specs.Prelude.{ℕ, ◌+◌, ◌-◌, ◌*◌, Bool, false, ◌&&◌, List, eqb, length, take, drop, get_or}
+use Rattle.std.specs.Str.{bytes_eq}
 use Rattle.logic.specs.Choice.{pick}
 use Rattle.wire.specs.Wire.{numbers16}
 
@@ -7,16 +8,9 @@ use Rattle.wire.specs.Wire.{numbers16}
 abbrev pub part : ℕ → ℕ → List ℕ → List ℕ
 part a e l = take (e - a) (drop a l)
 
--- Two lists are the same, number by number.
-unfoldable pub same : List ℕ → List ℕ → Bool
-same [] [] = true
-same [] (b ∷ m) = false
-same (a ∷ l) [] = false
-same (a ∷ l) (b ∷ m) = pick (eqb a b) (same l m) false
-
 -- Stored bytes are the numbers of a list: two bytes for each, high first, and no byte more.
 unfoldable pub holds : List ℕ → List ℕ → Bool
-holds l s = pick (eqb (length s) (2 * length l)) (same l (numbers16 s)) false
+holds l s = pick (eqb (length s) (2 * length l)) (bytes_eq l (numbers16 s)) false
 
 -- Stored bytes are the n numbers of each of four lists, one list after the other.
 unfoldable pub four : ℕ → List ℕ → List ℕ → List ℕ → List ℕ → List ℕ → Bool

@@ -1,5 +1,5 @@
 -- How the records of a kind are counted.
-use Rattle.std.specs.Prelude.{ℕ, ◌+◌, min, eqb}
+use Rattle.std.specs.Prelude.{ℕ, ◌+◌, min, eqb, Option, Some, None}
 use Rattle.logic.specs.Choice.{pick}
 use Rattle.replay.specs.declared.Verdict.{Verdict}
 use Rattle.replay.specs.declared.Verdict.TheVariants.{Agreed, Tied, Differs, Turn, Unknown}
@@ -9,9 +9,10 @@ use Rattle.replay.specs.declared.Tally.{Tally}
 abbrev pub one_more : ℕ → ℕ
 one_more n = min (n + 1) 0xFFFFFFFFFFFFFFFF
 
--- The first that differs stays the first; 0 is none.
-abbrev pub first_of : ℕ → ℕ → ℕ
-first_of first number = pick (eqb first 0) number first
+-- The first that differs stays the first; 0 is no record's number.
+abbrev pub first_of : Option ℕ → ℕ → Option ℕ
+first_of None number = pick (eqb number 0) None (Some number)
+first_of (Some first) number = Some first
 
 -- A record of a number is replayed, and agrees, is a tie or differs; what asks nothing is not counted.
 unfoldable pub counted_of : Tally → Verdict → ℕ → Tally

@@ -8,6 +8,7 @@ use lib.Dec.{ltb}
 use borrow.Author.Tests.{lt-ltb, le-ltb, ltb-true, ltb-false}
 use Rattle.io.specs.Digits.{last_digits, IsDigitCount}
 use Rattle.logic.proofs.Choice.{both}
+use Rattle.saying.specs.declared.Line.{Line}
 use Rattle.saying.specs.Saying.{Said, number_most, digit_of, decimal_for, decimal_of}
 
 pos_pow : (k : ℕ) → 1 ≤ 10 ^ k
@@ -43,7 +44,7 @@ decimal_digits n (suc j) w h =
     fewest number_most n j (omega (arith, few_digits n (suc j) w h)) w.1 (λ l. rw z at (w.2 (omega arith)))
 
 -- What `io::decimal` wrote is said.
-pub number_said : {o l o' : List ℕ} {at r : ℕ} (n k : ℕ) → IsDigitCount 10 1 n k → n < 2 ^ 64 → l ≡ last_digits 10 k n → Said o at l r o' → Said o at (decimal_of n) r o'
+pub number_said : {l m : Line} {b : List ℕ} (n k : ℕ) → IsDigitCount 10 1 n k → n < 2 ^ 64 → b ≡ last_digits 10 k n → Said l b m → Said l (decimal_of n) m
 number_said n k w h d s = rw (decimal_digits n k w h, ← d) s
 
 -- ---- the digits read back

@@ -1,13 +1,24 @@
--- What a buffer holds after bytes are added to it, and a number as text.
-use Rattle.std.specs.Prelude.{ℕ, zero, suc, ◌+◌, ◌/◌, ◌%◌, ◌≤◌, ◌≡◌, List, [], ◌∷◌, ◌++◌, ltb, length}
+-- What a line says after bytes are added to it, and a number as text.
+use Rattle.std.specs.Prelude.{ℕ, zero, suc, ◌+◌, ◌/◌, ◌%◌, ◌≤◌, ◌≡◌, List, [], ◌∷◌, ◌++◌, ltb, length, take}
 use Rattle.std.proofs.lemmas.List.Edits.{sets}
 use Rattle.logic.specs.Choice.{pick}
+use Rattle.saying.specs.declared.Line.{Line}
 
--- `line` was added to a buffer that held `at` bytes: it holds r bytes now, `line` stands after those that it held, and past r it is as it was.
-pub record Said (out : List ℕ) (at : ℕ) (line : List ℕ) (r : ℕ) (out' : List ℕ) : Type 0 where
-  pub count : r ≡ at + length line
-  pub room : r ≤ length out
-  pub left : out' ≡ sets out at line
+-- The bytes that a line says.
+abbrev pub bytes_of : Line → List ℕ
+bytes_of l = take l.len l.room.now
+
+-- So many bytes more can be said.
+abbrev pub HasRoom : Line → ℕ → Type 0
+HasRoom l n = l.len + n ≤ length l.room.now
+
+-- `bytes` were added to a line: it says them after those that it said, in the same room, which is as it was past them.
+pub record Said (old : Line) (bytes : List ℕ) (new : Line) : Type 0 where
+  pub same_room : new.room.ghost_name ≡ old.room.ghost_name
+  pub long : length new.room.now ≡ length old.room.now
+  pub count : new.len ≡ old.len + length bytes
+  pub room : new.len ≤ length old.room.now
+  pub left : new.room.now ≡ sets old.room.now old.len bytes
 
 -- The most digits that a number of 64 bits has.
 abbrev pub number_most : ℕ

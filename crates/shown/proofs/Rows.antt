@@ -1,25 +1,28 @@
 -- A row: its parts, one after the other, and that there is room for each.
 use mathlib.Core.Path.{◌≡◌, sym, ◌∙◌}
-use mathlib.Core.Bool.{Bool, true, false}
+use mathlib.Core.Bool.{Bool}
 use mathlib.Core.List.{List, [], ◌∷◌, ◌++◌}
 use Prim.Native.Nat.{ℕ, ◌+◌, ◌-◌, ◌*◌, ◌≤◌}
 use native.Mathlib.Numerals.{add-one}
 use native.Mathlib.Omega.{arith}
 use lib.ListN.{length, take, drop, replicate, length-append, length-drop, length-replicate}
-use lib.Seq.{length-take-le, take_all}
-use borrow.Author.Tests.{not-false}
+use lib.Seq.{length-take-le}
+use Rattle.std.proofs.Common.{Option, Some, None}
+use Rattle.std.specs.Option.{is_some}
+use Rattle.std.proofs.lemmas.List.{take_rest}
 use mir.Syntax.{w64}
 use mir.Val.{Fits}
+use Rattle.units.specs.declared.Offset.{Offset}
 use Rattle.units.specs.Limits.{text_most, width_most}
-use Rattle.logic.proofs.Choice.{both}
 use Rattle.chars.specs.Utf8.{Whole}
 use Rattle.lines.specs.Lines.{line_end, body_end, next_line, line_at, body_of}
 use Rattle.lines.proofs.Laws.{next_is, line_inside, body_inside, slice_mid, body_length, body_whole}
+use Rattle.saying.specs.declared.Line.{Line}
 use Rattle.saying.specs.Saying.{Said}
-use Rattle.saying.proofs.Laws.{said_length, said_none, said_then}
+use Rattle.saying.proofs.Laws.{said_none, said_then}
 use Rattle.cuts.specs.declared.Kept.{Kept}
 use Rattle.cuts.specs.declared.Cut.{Cut}
-use Rattle.cuts.specs.Cuts.{cut_of}
+use Rattle.cuts.specs.Cuts.{dropped_at, cut_of}
 use Rattle.cuts.proofs.Laws.{kept_fits, between}
 use Rattle.shown.specs.Shown.{shown}
 use Rattle.shown.specs.Slip.{kept_part, dropped_word, dropped_part, row_by, row_of, wide_of, row_most, Keeps, Sits}
@@ -27,27 +30,19 @@ use Rattle.shown.proofs.Showing.{shown_most}
 
 -- ---- what is dropped
 
--- The bytes from a place on, as a part of the line.
-part_is : (line : List ℕ) (d : ℕ) → take (length line - d) (drop d line) ≡ drop d line
-part_is line d = take_all (length line - d) (drop d line) (omega (arith, length-drop d line))
-
-module _ (line : List ℕ) (d : ℕ) where
-  pub dropped_none : {wide : Bool} {o p : List ℕ} {at r : ℕ} → wide ≡ false → at ≤ length o → r ≡ at → p ≡ o → Said o at (dropped_part line wide d) r p
+module _ (line : List ℕ) (dropped : Option Offset) {l : Line} where
+  pub dropped_none : dropped ≡ None → l.len ≤ length l.room.now → Said l (dropped_part line dropped) l
   unfolding dropped_part
-  dropped_none {wide} {o} {p} {at} {r} e h q u = rw (e, q, u) (said_none o at h)
+  dropped_none e h = rw e (said_none l h)
 
-  pub dropped_said : {wide : Bool} {o p q : List ℕ} {at n r : ℕ} → wide ≡ true → Said o at dropped_word n p → Said p n (shown (take (length line - d) (drop d line))) r q → Said o at (dropped_part line wide d) r q
+  pub dropped_said : {place : Offset} {m n : Line} → dropped ≡ Some place → Said l dropped_word m → Said m (shown (take (length line - place.0) (drop place.0 line))) n → Said l (dropped_part line dropped) n
   unfolding dropped_part
-  dropped_said e s t = rw e (said_then s (rw (part_is line d) at t))
+  dropped_said {place} e s t = rw e (said_then s (rw (take_rest line place.0) at t))
 
-pub ruleset dropping = (dropped_said, not-false)
-
-dropped_most : (line : List ℕ) (wide : Bool) (d : ℕ) → length (dropped_part line wide d) ≤ 10 + 3 * (length line - d)
+dropped_most : (line : List ℕ) (dropped : Option Offset) → length (dropped_part line dropped) ≤ 10 + 3 * (length line - dropped_at line dropped)
 unfolding dropped_part
-dropped_most line wide d =
-    both wide
-    (λ t. rw t (omega (arith, length-append dropped_word (shown (drop d line)), shown_most (drop d line), length-drop d line)))
-    (λ t. rw t (omega arith))
+dropped_most line None = omega arith
+dropped_most line (Some d) = omega (arith, length-append dropped_word (shown (drop d.0 line)), shown_most (drop d.0 line), length-drop d.0 line)
 
 -- ---- what is kept
 
@@ -55,24 +50,24 @@ module _ {width : ℕ} {line : List ℕ} {k : Kept} (z : Keeps width line k) whe
   kept_long : length (take k.end.0 line) ≡ k.end.0
   kept_long = length-take-le k.end.0 line z.inside
 
-  pub keeps_room : (o : List ℕ) → row_most ≤ length o → 0 + 3 * length (take k.end.0 line) ≤ length o
-  keeps_room o h = omega (arith, kept_long, z.inside, z.short)
+  module _ (l : Line) (h : l.len + row_most ≤ length l.room.now) where
+    pub keeps_room : l.len + 3 * length (take k.end.0 line) ≤ length l.room.now
+    keeps_room = omega (arith, kept_long, z.inside, z.short)
 
-  module _ {o p : List ℕ} {a : ℕ} (h : row_most ≤ length o) (sa : Said o 0 (shown (take k.end.0 line)) a p) where
-    kept_reach : (a ≤ 3 * k.end.0) × (length p ≡ length o)
-    kept_reach = (omega (arith, sa.count, shown_most (take k.end.0 line), kept_long), said_length sa)
+    module _ {m : Line} (sa : Said l (shown (take k.end.0 line)) m) where
+      reach : m.len ≤ l.len + 3 * k.end.0
+      reach = omega (arith, sa.count, shown_most (take k.end.0 line), kept_long)
 
-    pub keeps_spaces : a + (width - k.columns.0) ≤ length p
-    keeps_spaces = omega (arith, kept_reach.0, kept_reach.1, z.inside, z.short, z.narrow)
+      pub keeps_spaces : m.len + (width - k.columns.0) ≤ length m.room.now
+      keeps_spaces = omega (arith, reach, sa.long, z.inside, z.short, z.narrow)
 
-    module _ {q : List ℕ} {b : ℕ} (sb : Said p a (replicate (width - k.columns.0) 0x20) b q) where
-      pub keeps_edge : b + 1 ≤ length q
-      keeps_edge =
-          omega (arith, sb.count, length-replicate {A = ℕ} (width - k.columns.0) 0x20, said_length sb, kept_reach.0, kept_reach.1, z.inside, z.short, z.narrow)
+      module _ {n : Line} (sb : Said m (replicate (width - k.columns.0) 0x20) n) where
+        pub keeps_edge : n.len + 1 ≤ length n.room.now
+        keeps_edge = omega (arith, sb.count, length-replicate {A = ℕ} (width - k.columns.0) 0x20, sb.long, reach, sa.long, z.inside, z.short, z.narrow)
 
-      pub keeps_said : {u : List ℕ} {e : ℕ} → Said q b (0x7C ∷ []) e u → Said o 0 (kept_part width line k) e u
-      unfolding kept_part
-      keeps_said sc = said_then sa (said_then sb sc)
+        pub keeps_said : {q : Line} → Said n (0x7C ∷ []) q → Said l (kept_part width line k) q
+        unfolding kept_part
+        keeps_said sc = said_then sa (said_then sb sc)
 
 pub ruleset keeping = (keeps_room, keeps_spaces, keeps_edge, keeps_said)
 
@@ -85,16 +80,15 @@ kept_most {width} {line} {k} z =
 
 -- ---- a row
 
-module _ {width : ℕ} {line : List ℕ} {c : Cut} (z : Sits width line c) {o p : List ℕ} {a : ℕ} (h : row_most ≤ length o) (sa : Said o 0 (kept_part width line c.kept) a p) where
-  pub row_dropped : a + 10 + 3 * (length line - c.dropped.0) ≤ length p
-  row_dropped = omega (arith, sa.count, kept_most z.keeps, said_length sa, z.order, z.inside, z.keeps.short)
+module _ {width : ℕ} {line : List ℕ} {c : Cut} (z : Sits width line c) {l m : Line} (h : l.len + row_most ≤ length l.room.now) (sa : Said l (kept_part width line c.kept) m) where
+  pub row_dropped : m.len + (10 + 3 * (length line - dropped_at line c.dropped)) ≤ length m.room.now
+  row_dropped = omega (arith, sa.count, kept_most z.keeps, sa.long, z.order, z.inside, z.keeps.short)
 
-  module _ {q : List ℕ} {b : ℕ} (sb : Said p a (dropped_part line c.wide c.dropped.0) b q) where
-    pub row_last : b + 1 ≤ length q
-    row_last =
-        omega (arith, sa.count, kept_most z.keeps, said_length sa, sb.count, dropped_most line c.wide c.dropped.0, said_length sb, z.order, z.inside, z.keeps.short)
+  module _ {n : Line} (sb : Said m (dropped_part line c.dropped) n) where
+    pub row_last : n.len + 1 ≤ length n.room.now
+    row_last = omega (arith, sa.count, kept_most z.keeps, sa.long, sb.count, dropped_most line c.dropped, sb.long, z.order, z.inside, z.keeps.short)
 
-    pub row_said : {u : List ℕ} {r : ℕ} → Said q b (0x0A ∷ []) r u → Said o 0 (row_by width line c) r u
+    pub row_said : {q : Line} → Said n (0x0A ∷ []) q → Said l (row_by width line c) q
     unfolding row_by
     row_said sc = said_then sa (said_then sb sc)
 
@@ -112,10 +106,10 @@ cut_sits {width} {line} {c} w l e =
       inside = b.inside;
     })
 
-pub line_said : (width : ℕ) (line : List ℕ) {o p : List ℕ} {c : Cut} {r : ℕ} → c ≡ cut_of width line → Said o 0 (row_by width line c) r p → Said o 0 (row_of width line) r p
+pub line_said : (width : ℕ) (line : List ℕ) {l m : Line} {c : Cut} → c ≡ cut_of width line → Said l (row_by width line c) m → Said l (row_of width line) m
 line_said width line e s = rw e at s
 
-pub line_wide : (width : ℕ) (line : List ℕ) {c : Cut} → c ≡ cut_of width line → c.wide ≡ wide_of width line
+pub line_wide : (width : ℕ) (line : List ℕ) {c : Cut} → c ≡ cut_of width line → is_some c.dropped ≡ wide_of width line
 line_wide width line e = rw e
 
 pub ruleset drawing = (cut_sits, line_said, line_wide)
@@ -139,7 +133,7 @@ module _ (s : List ℕ) (from : ℕ) (l : from ≤ length s) {e b : ℕ} (p : e 
   pub place_whole : Whole (drop from s) → Whole (take (b - from) (drop from s))
   place_whole w = rw place_body (body_whole s from w)
 
-  pub place_said : (width : ℕ) {r : ℕ} {o u : List ℕ} → Said o 0 (row_of width (take (b - from) (drop from s))) r u → Said o 0 (row_of width (body_of s (line_at s from))) r u
+  pub place_said : (width : ℕ) {m n : Line} → Said m (row_of width (take (b - from) (drop from s))) n → Said m (row_of width (body_of s (line_at s from))) n
   place_said width t = rw place_body at t
 
   pub place_wide : (width : ℕ) {t : Bool} → t ≡ wide_of width (take (b - from) (drop from s)) → t ≡ wide_of width (body_of s (line_at s from))

@@ -1,45 +1,39 @@
 -- Control characters by their pictures: what stands for one character, and the loop over bytes.
-use mathlib.Core.Path.{◌≡◌, refl, sym, ap, ◌∙◌}
+use mathlib.Core.Path.{◌≡◌, refl, ap}
 use mathlib.Core.Bool.{Bool, true, false}
 use mathlib.Core.List.{List, [], ◌∷◌, ◌++◌}
-use Prim.Native.Nat.{ℕ, zero, suc, ◌+◌, ◌-◌, ◌*◌, ◌^◌, ◌≤◌, ◌<◌}
+use Prim.Native.Nat.{ℕ, zero, suc, ◌+◌, ◌-◌, ◌*◌, ◌≤◌, ◌<◌}
 use native.Mathlib.Omega.{arith}
 use lib.Dec.{eqb, ltb}
-use lib.ListN.{length, get_or, drop, length-append, drop_of_length-le, get_or-eq_default}
-use lib.Seq.{drop-cons, drop-drop, get_or-drop}
-use borrow.Author.Tests.{lt-ltb, le-ltb, ltb-true, ltb-false, eq-eqb, ne_eqb}
-use mir.Syntax.{w64}
-use mir.Val.{Fits}
+use lib.ListN.{length, get_or, take, drop, length-append, length-drop}
+use borrow.Author.Tests.{lt-ltb, le-ltb, eq-eqb, ne_eqb}
+use Rattle.std.proofs.lemmas.List.{take_rest, nil_from_length}
 use Rattle.logic.specs.Choice.{pick, within}
 use Rattle.logic.proofs.Choice.{both, and_true, within_says}
+use Rattle.saying.specs.declared.Line.{Line}
 use Rattle.saying.specs.Saying.{Said}
-use Rattle.saying.proofs.Laws.{said_length}
 use Rattle.shown.specs.Shown.{is_c1, picture, shown_one, size_one, shown_from, shown}
 use Rattle.shown.proofs.Telling.{Telling, telling_start, telling_step, telling_end}
 
--- Past the end bytes count as 0.
-pub byte_past : (s : List ℕ) (i : ℕ) → length s ≤ i → 0 ≡ get_or s i 0
-byte_past s i l = sym (get_or-eq_default s 0 l)
-
 -- ---- one character
 
-module _ {o p : List ℕ} {at r : ℕ} (a b : ℕ) where
-  pub one_low : a < 0x20 → Said o at (picture (0x80 + a)) r p → Said o at (shown_one a b) r p
+module _ {l m : Line} (a b : ℕ) where
+  pub one_low : a < 0x20 → Said l (picture (0x80 + a)) m → Said l (shown_one a b) m
   unfolding shown_one
-  one_low l s = rw (lt-ltb a 0x20 l) s
+  one_low h s = rw (lt-ltb a 0x20 h) s
 
-  pub one_delete : 0x20 ≤ a → a ≡ 0x7F → Said o at (picture 0xA1) r p → Said o at (shown_one a b) r p
+  pub one_delete : 0x20 ≤ a → a ≡ 0x7F → Said l (picture 0xA1) m → Said l (shown_one a b) m
   unfolding shown_one
-  one_delete l e s = rw (le-ltb a 0x20 l, eq-eqb a 0x7F e) s
+  one_delete h e s = rw (le-ltb a 0x20 h, eq-eqb a 0x7F e) s
 
-  module _ {t : Bool} (q : t ≡ is_c1 a b) (l : 0x20 ≤ a) (n : a ≡ 0x7F → ⊥) where
-    pub one_c1 : t ≡ true → Said o at (picture 0xA6) r p → Said o at (shown_one a b) r p
+  module _ {t : Bool} (q : t ≡ is_c1 a b) (h : 0x20 ≤ a) (n : a ≡ 0x7F → ⊥) where
+    pub one_c1 : t ≡ true → Said l (picture 0xA6) m → Said l (shown_one a b) m
     unfolding shown_one
-    one_c1 e s = rw (le-ltb a 0x20 l, ne_eqb a 0x7F n, ← q, e) s
+    one_c1 e s = rw (le-ltb a 0x20 h, ne_eqb a 0x7F n, ← q, e) s
 
-    pub one_plain : t ≡ false → Said o at (a ∷ []) r p → Said o at (shown_one a b) r p
+    pub one_plain : t ≡ false → Said l (a ∷ []) m → Said l (shown_one a b) m
     unfolding shown_one
-    one_plain e s = rw (le-ltb a 0x20 l, ne_eqb a 0x7F n, ← q, e) s
+    one_plain e s = rw (le-ltb a 0x20 h, ne_eqb a 0x7F n, ← q, e) s
 
 pub ruleset one = (one_low, one_delete, one_c1, one_plain)
 
@@ -67,16 +61,11 @@ unfolding size_one
 size_some a b = both (is_c1 a b) (λ t. rw t (omega arith)) (λ t. rw t (omega arith))
 
 -- It lies in the text: the second byte of a control character of C1 is not 0, so there is one.
-size_inside : (s : List ℕ) (i : ℕ) → i < length s → i + size_one (get_or s i 0) (get_or s (i + 1) 0) ≤ length s
+size_inside : (s : List ℕ) → 0 < length s → size_one (get_or s 0 0) (get_or s 1 0) ≤ length s
 unfolding size_one
-size_inside s i l =
-    both (is_c1 (get_or s i 0) (get_or s (i + 1) 0))
-    (λ t.
-    let w = within_says 0x80 0x9F (get_or s (i + 1) 0) (and_true (eqb (get_or s i 0) 0xC2) (within 0x80 0x9F (get_or s (i + 1) 0)) t).1 in
-    rw t (both (ltb (i + 1) (length s))
-    (λ u. let v = ltb-true (i + 1) (length s) u in omega arith)
-    (λ u. absurd (omega (arith, w.0, byte_past s (i + 1) (ltb-false (i + 1) (length s) u))))))
-    (λ t. rw t (omega arith))
+size_inside [] h = absurd (omega arith)
+size_inside (a ∷ []) h = both (is_c1 a 0) (λ p. absurd (omega (arith, (within_says 0x80 0x9F 0 (and_true (eqb a 0xC2) (within 0x80 0x9F 0) p).1).0))) (λ p. rw p (omega arith))
+size_inside (a ∷ b ∷ t) h = both (is_c1 a b) (λ p. rw p (omega arith)) (λ p. rw p (omega arith))
 
 -- ---- all of them
 
@@ -86,22 +75,14 @@ from_drop zero s = refl
 from_drop (suc k) [] = refl
 from_drop (suc k) (a ∷ t) = from_drop k t
 
-rest_is : (k : ℕ) (s : List ℕ) (i : ℕ) → shown_from k (drop (suc i) s) ≡ shown (drop (i + suc k) s)
-rest_is k s i =
-    let z : suc i + k ≡ i + suc k = omega arith in
-    from_drop k (drop (suc i) s) ∙ ap shown (drop-drop k (suc i) s) ∙ ap (λ n. shown (drop n s)) z
-
--- The character at a place, and then the rest.
-shown_next : (s : List ℕ) (i : ℕ) → i < length s
-    → shown (drop i s) ≡ shown_one (get_or s i 0) (get_or s (i + 1) 0) ++ shown (drop (i + size_one (get_or s i 0) (get_or s (i + 1) 0)) s)
+-- The first character, and then the rest.
+shown_next : (s : List ℕ) → 0 < length s → shown s ≡ shown_one (get_or s 0 0) (get_or s 1 0) ++ shown (drop (size_one (get_or s 0 0) (get_or s 1 0)) s)
 unfolding shown_from size_one
-shown_next s i l =
-    let z : suc i + 0 ≡ i + 1 = omega arith in
-    let g : get_or (drop (suc i) s) 0 0 ≡ get_or s (i + 1) 0 = get_or-drop (suc i) s 0 0 ∙ ap (λ n. get_or s n 0) z in
-    rw (drop-cons s i 0 l, g)
-    (both (is_c1 (get_or s i 0) (get_or s (i + 1) 0))
-    (λ t. rw t (ap (λ l. shown_one (get_or s i 0) (get_or s (i + 1) 0) ++ l) (rest_is 1 s i)))
-    (λ t. rw t (ap (λ l. shown_one (get_or s i 0) (get_or s (i + 1) 0) ++ l) (rest_is 0 s i))))
+shown_next [] h = absurd (omega arith)
+shown_next (a ∷ t) h =
+    both (is_c1 a (get_or t 0 0))
+    (λ p. rw p (ap (λ l. shown_one a (get_or t 0 0) ++ l) (from_drop 1 t)))
+    (λ p. rw p)
 
 -- At most three bytes a byte.
 from_most : (k : ℕ) (s : List ℕ) → length (shown_from k s) ≤ 3 * length s
@@ -117,41 +98,33 @@ shown_most s = from_most 0 s
 
 -- ---- the loop
 
--- The byte at i is next; o has become p, and holds what stands for the bytes before it, up to `to`.
-pub record Showing (o : List ℕ) (at : ℕ) (s : List ℕ) (i to : ℕ) (p : List ℕ) : Type 0 where
-  pub told : Telling o at (shown s) (shown (drop i s)) to p
-  pub room : to + 3 * (length s - i) ≤ length o
-  pub inside : i ≤ length s
+-- Of the bytes s the last ones, `rest`, are still to be shown; the line has become m.
+pub record Showing (l : Line) (s rest : List ℕ) (m : Line) : Type 0 where
+  pub told : Telling l (shown s) (shown rest) m
+  pub room : m.len + 3 * length rest ≤ length l.room.now
 
-pub showing_start : (o : List ℕ) (at : ℕ) (s : List ℕ) → at + 3 * length s ≤ length o → Showing o at s 0 at o
-showing_start o at s h = record { told = telling_start o at (shown s) (omega arith); room = omega arith; inside = omega arith }
+pub showing_start : (l : Line) (s : List ℕ) → l.len + 3 * length s ≤ length l.room.now → Showing l s s l
+showing_start l s h = record { told = telling_start l (shown s) (omega arith); room = h }
 
-module _ {o s p : List ℕ} {at i to : ℕ} (k : Showing o at s i to p) where
-  pub showing_long : length p ≡ length o
-  showing_long = said_length k.told.said
+module _ {l m : Line} {s r : List ℕ} (k : Showing l s r m) (h : 0 < length r) where
+  pub showing_room : m.len + 3 ≤ length m.room.now
+  showing_room = omega (arith, k.room, k.told.said.long)
 
-  pub showing_room : i < length s → to + 3 ≤ length p
-  showing_room l = omega (arith, k.room, showing_long)
+  module _ {n : ℕ} (e : n ≡ size_one (get_or r 0 0) (get_or r 1 0)) where
+    pub showing_size : n ≤ length r
+    showing_size = rw e (size_inside r h)
 
-  module _ {a b n : ℕ} (l : i < length s) (ea : a ≡ get_or s i 0) (eb : b ≡ get_or s (i + 1) 0) (en : n ≡ size_one a b) where
-    on : i + n ≤ length s
-    on = rw (en, ea, eb) (size_inside s i l)
+    pub showing_less : length (take (length r - n) (drop n r)) < length r
+    showing_less = rw (take_rest r n) (omega (arith, length-drop n r, e, size_some (get_or r 0 0) (get_or r 1 0), showing_size))
 
-    pub showing_fits : length s < 2 ^ 64 → Fits w64 (i + n)
-    showing_fits h = record { fits = omega (arith, on) }
+    pub showing_step : {q : Line} → Said m (shown_one (get_or r 0 0) (get_or r 1 0)) q → Showing l s (take (length r - n) (drop n r)) q
+    showing_step {q} d = rw (take_rest r n) (record {
+      told = telling_step (shown_one (get_or r 0 0) (get_or r 1 0)) (shown (drop n r)) k.told d (rw e (shown_next r h));
+      room = omega (arith, k.room, d.count, one_most (get_or r 0 0) (get_or r 1 0), length-drop n r, e, size_some (get_or r 0 0) (get_or r 1 0), showing_size);
+    })
 
-    pub showing_less : length s - (i + n) < length s - i
-    showing_less = omega (arith, on, en, size_some a b)
+pub showing_end : {l m : Line} {s r : List ℕ} → Showing l s r m → length r ≤ 0 → Said l (shown s) m
+unfolding shown_from
+showing_end {l} {m} {s} {r} k e = telling_end k.told (rw (nil_from_length r (omega arith)))
 
-    pub showing_step : {q : List ℕ} {r : ℕ} → Said p to (shown_one a b) r q → Showing o at s (i + n) r q
-    showing_step {q} {r} d = record {
-      told = telling_step (shown_one a b) (shown (drop (i + n) s)) k.told d (rw (en, ea, eb) (shown_next s i l));
-      room = omega (arith, k.room, d.count, one_most a b, on, en, size_some a b);
-      inside = on;
-    }
-
-  pub showing_end : length s ≤ i → Said o at (shown s) to p
-  unfolding shown_from
-  showing_end h = telling_end k.told (rw (drop_of_length-le s h))
-
-pub ruleset showing = (showing_start, showing_long, showing_room, showing_fits, showing_less, showing_step, showing_end)
+pub ruleset showing = (showing_start, showing_room, showing_size, showing_less, showing_step, showing_end)

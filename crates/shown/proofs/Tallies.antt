@@ -1,10 +1,11 @@
 -- The tally and the line that says it.
 use mathlib.Core.Path.{◌≡◌}
 use mathlib.Core.Bool.{Bool, true, false}
-use mathlib.Core.List.{List, [], ◌∷◌, ◌++◌}
+use mathlib.Core.List.{[], ◌∷◌, ◌++◌}
 use Prim.Native.Nat.{ℕ, ◌+◌, ◌≤◌}
 use lib.ListN.{length}
 use borrow.Author.Tests.{eq-eqb, ne_eqb, not-true, not-false}
+use Rattle.saying.specs.declared.Line.{Line}
 use Rattle.saying.specs.Saying.{Said, decimal_of}
 use Rattle.saying.proofs.Laws.{said_none, said_then}
 use Rattle.shown.specs.declared.Tally.{Tally}
@@ -25,17 +26,16 @@ module _ (t : Tally) where
   unfolding counted_of
   counted_wide e q = rw (e, q)
 
-  pub first_none : {o p : List ℕ} {at r : ℕ} → t.wide ≡ 0 → at ≤ length o → r ≡ at → p ≡ o → Said o at (first_wide t) r p
+  pub first_none : {l : Line} → t.wide ≡ 0 → l.len ≤ length l.room.now → Said l (first_wide t) l
   unfolding first_wide
-  first_none {o} {p} {at} {r} e h q u = rw (eq-eqb t.wide 0 e, q, u) (said_none o at h)
+  first_none {l} e h = rw (eq-eqb t.wide 0 e) (said_none l h)
 
-  pub first_said : {o p : List ℕ} {at r : ℕ} → (t.wide ≡ 0 → ⊥) → Said o at (first_word ++ decimal_of t.first) r p → Said o at (first_wide t) r p
+  pub first_said : {l m : Line} → (t.wide ≡ 0 → ⊥) → Said l (first_word ++ decimal_of t.first) m → Said l (first_wide t) m
   unfolding first_wide
   first_said e s = rw (ne_eqb t.wide 0 e) s
 
-  module _ {o p q u : List ℕ} {a b c : ℕ} (sa : Said o 0 (lines_word ++ decimal_of t.lines) a p) (sb : Said p a (wide_word ++ decimal_of t.wide) b q) (sc : Said q b (first_wide t) c u) where
-    pub summary_said : {d : ℕ} {v : List ℕ} → Said u c (0x0A ∷ []) d v → Said o 0 (summary_of t) d v
-    unfolding summary_of
-    summary_said sd = said_then sa (said_then sb (said_then sc sd))
+  pub summary_said : {k l m n q : Line} → Said k (lines_word ++ decimal_of t.lines) l → Said l (wide_word ++ decimal_of t.wide) m → Said m (first_wide t) n → Said n (0x0A ∷ []) q → Said k (summary_of t) q
+  unfolding summary_of
+  summary_said a b c d = said_then a (said_then b (said_then c d))
 
 pub ruleset tallies = (first_here, first_before, counted_fits, counted_wide, first_none, first_said, summary_said, not-true, not-false)

@@ -1,6 +1,8 @@
 -- "the slip as the printer would print it, with a ruler of columns above, a mark at the last column, and for each line that passes it the part that would be dropped set apart [..]; then one line with how
 -- many lines, how many too wide, the first of them."
-use Rattle.std.specs.Prelude.{ℕ, zero, suc, ◌+◌, ◌-◌, ◌*◌, ◌/◌, ◌%◌, ◌≤◌, Bool, true, false, List, [], ◌∷◌, ◌++◌, eqb, length, take, drop, replicate}
+use Rattle.std.specs.Prelude.{ℕ, ◌≡◌, zero, suc, ◌+◌, ◌-◌, ◌*◌, ◌/◌, ◌%◌, ◌≤◌, Bool, true, false, List, [], ◌∷◌, ◌++◌, eqb, length, take, drop, replicate, Option, Some, None}
+use Rattle.std.specs.Option.{is_some}
+use Rattle.units.specs.declared.Offset.{Offset}
 use Rattle.units.specs.Limits.{text_most, width_most}
 use Rattle.logic.specs.Choice.{pick}
 use Rattle.logic.specs.Items.{items}
@@ -8,7 +10,7 @@ use Rattle.lines.specs.Lines.{InputLine, next_line, line_at, body_of}
 use Rattle.saying.specs.Saying.{digit_of, decimal_of}
 use Rattle.cuts.specs.declared.Kept.{Kept}
 use Rattle.cuts.specs.declared.Cut.{Cut}
-use Rattle.cuts.specs.Cuts.{cut_of}
+use Rattle.cuts.specs.Cuts.{dropped_at, cut_of}
 use Rattle.shown.specs.declared.Tally.{Tally}
 use Rattle.shown.specs.Shown.{shown}
 
@@ -18,23 +20,24 @@ use Rattle.shown.specs.Shown.{shown}
 unfoldable pub kept_part : ℕ → List ℕ → Kept → List ℕ
 kept_part width line k = shown (take k.end.0 line) ++ (replicate (width - k.columns.0) 0x20 ++ (0x7C ∷ []))
 
--- What is dropped of a line, from a place on, after " dropped: "; nothing where the line is not too wide.
+-- What is dropped of a line, from a place on, after " dropped: "; or nothing.
 abbrev pub dropped_word : List ℕ
 dropped_word = 0x20 ∷ 0x64 ∷ 0x72 ∷ 0x6F ∷ 0x70 ∷ 0x70 ∷ 0x65 ∷ 0x64 ∷ 0x3A ∷ 0x20 ∷ []
 
-unfoldable pub dropped_part : List ℕ → Bool → ℕ → List ℕ
-dropped_part line wide place = pick wide (dropped_word ++ shown (drop place line)) []
+unfoldable pub dropped_part : List ℕ → Option Offset → List ℕ
+dropped_part line None = []
+dropped_part line (Some place) = dropped_word ++ shown (drop place.0 line)
 
 -- Both, and a newline.
 unfoldable pub row_by : ℕ → List ℕ → Cut → List ℕ
-row_by width line c = kept_part width line c.kept ++ (dropped_part line c.wide c.dropped.0 ++ (0x0A ∷ []))
+row_by width line c = kept_part width line c.kept ++ (dropped_part line c.dropped ++ (0x0A ∷ []))
 
 -- The row of a line, and whether the line is too wide.
 abbrev pub row_of : ℕ → List ℕ → List ℕ
 row_of width line = row_by width line (cut_of width line)
 
 abbrev pub wide_of : ℕ → List ℕ → Bool
-wide_of width line = (cut_of width line).wide
+wide_of width line = is_some (cut_of width line).dropped
 
 -- The most bytes of a row.
 abbrev pub row_most : ℕ
@@ -50,8 +53,8 @@ pub record Keeps (width : ℕ) (line : List ℕ) (k : Kept) : Type 0 where
 -- A cut whose kept part does, and that drops no more than the rest.
 pub record Sits (width : ℕ) (line : List ℕ) (c : Cut) : Type 0 where
   pub keeps : Keeps width line c.kept
-  pub order : c.kept.end.0 ≤ c.dropped.0
-  pub inside : c.dropped.0 ≤ length line
+  pub order : c.kept.end.0 ≤ dropped_at line c.dropped
+  pub inside : dropped_at line c.dropped ≤ length line
 
 -- ---- the ruler
 
@@ -67,6 +70,10 @@ mark_of top width c = pick top (top_mark width c) (digit_of (c % 10))
 unfoldable pub marks_from : (ℕ → ℕ) → ℕ → ℕ → List ℕ
 marks_from f c zero = []
 marks_from f c (suc n) = f (suc c) ∷ marks_from f (suc c) n
+
+-- What is given for each column up to the width is a mark f.
+abbrev pub Marks : (ℕ → ℕ → Type 0) → ℕ → (ℕ → ℕ) → Type 0
+Marks given width f = (column mark : ℕ) → column ≤ width → given column mark → mark ≡ f column
 
 abbrev pub marks_of : Bool → ℕ → List ℕ
 marks_of top width = marks_from (mark_of top width) 0 width

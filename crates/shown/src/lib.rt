@@ -1,4 +1,4 @@
-// The slip as a printer of some width prints it, line by line in a lent buffer: a ruler of columns, a row
+// The slip as a printer of some width prints it, line by line: a ruler of columns, a row
 // for each line with what the printer drops set apart, and a line that counts them. Control characters
 // are shown and not obeyed. Where a line is cut stands in `cuts`; nothing here writes to a file.
 //
@@ -6,33 +6,29 @@
 // stands further to the right than on the paper.
 #![tactic(auto)]
 
-ghost use Rattle.std.specs.Prelude.{◌≡◌, ◌+◌, ◌-◌, ◌*◌, ◌%◌, ◌≤◌, length, get_or, drop};
+ghost use Rattle.std.specs.Prelude.{◌≡◌, ℕ, ◌+◌, ◌-◌, ◌*◌, ◌%◌, ◌<◌, ◌≤◌, length, get_or, drop};
 ghost use Rattle.units.specs.Limits.{text_most, width_most};
 ghost use Rattle.chars.specs.Utf8.{Whole};
 ghost use Rattle.lines.specs.Lines.{next_line, line_at, body_of};
-ghost use Rattle.saying.specs.Saying.{Said, digit_of};
+ghost use Rattle.saying.specs.Saying.{HasRoom, Said, digit_of};
+ghost use Rattle.cuts.specs.Cuts.{dropped_at};
 ghost use Rattle.shown.specs.Shown.{is_c1, picture, shown_one, size_one, shown};
-ghost use Rattle.shown.specs.Slip.{row_most, Keeps, Sits, kept_part, dropped_part, row_by, row_of, wide_of, top_mark, mark_of, marks_of, digits_of, ruler_of, Small, counted_of, first_of, first_wide, summary_of};
+ghost use Rattle.shown.specs.Slip.{row_most, Keeps, Sits, kept_part, dropped_part, row_by, row_of, wide_of, top_mark, Marks, marks_from, ruler_of, Small, counted_of, first_of, first_wide, summary_of};
 
 use cuts::{Cut, Kept};
-use lines::NEWLINE;
+use saying::Line;
+use units::Offset;
 
 // The most bytes of a row: three for each byte of a text, the columns of the paper, its edge, the word
 // for what is dropped, and the newline.
 pub const ROW_MOST: usize = 180267;
 
-const SPACE: u8 = 0x20;
+const SPACE: u8 = b' ';
 
 const DELETE: u8 = 0x7F;
 
-// The edge of the paper.
-const EDGE: u8 = 0x7C;
-
 // What stands over the last column.
-const LAST: u8 = 0x76;
-
-// The digit 0.
-const ZERO: usize = 48;
+const LAST: u8 = b'v';
 
 // The control characters of C1 are two bytes: this one, and one between these bounds.
 const C1_FIRST: u8 = 0xC2;
@@ -53,19 +49,11 @@ const DELETE_PICTURE: u8 = 0xA1;
 
 const C1_PICTURE: u8 = 0xA6;
 
-// A row of a slip: its bytes in the buffer, where the next line starts, which is no place in the text
-// after the last line, and whether the line is too wide.
+// A row of a slip: where the next line starts, which is no place in the text after the last line, and whether
+// the line is too wide.
 #[derive(Clone, Copy)]
 pub struct Printed {
-    pub len: usize,
     pub next: usize,
-    pub wide: bool,
-}
-
-// A row of a line: its bytes in the buffer, and whether the line is too wide.
-#[derive(Clone, Copy)]
-pub struct Drawn {
-    pub len: usize,
     pub wide: bool,
 }
 
@@ -88,34 +76,32 @@ pub const NO_LINES: Tally = Tally {
 fn is_c1(b: u8, next: u8) -> bool
     ensures { result ≡ is_c1 b next }
 {
-    (b == C1_FIRST) & ((C1_LEAST <= next) & (next <= C1_MOST))
+    b == C1_FIRST && (C1_LEAST..=C1_MOST).contains(&next)
 }
 
 // Adds the picture of a control character.
-fn say_picture(out: &mut [u8], at: usize, last: u8) -> usize
-    requires { at + 3 ≤ length out.old }
-    ensures { Said out.old at (picture last) result out.new }
+fn say_picture(out: &mut Line<'_>, last: u8)
+    requires { HasRoom out.old 3 }
+    ensures { Said out.old (picture last) out.new }
 {
-    let bytes = [PICTURE_FIRST, PICTURE_SECOND, last];
-    saying::say(out, at, &bytes)
+    out.say(&[PICTURE_FIRST, PICTURE_SECOND, last]);
 }
 
 // Adds what the character is shown by of which this byte is the first, the next byte being `next`; or
 // the byte itself.
-fn say_one(out: &mut [u8], at: usize, b: u8, next: u8) -> usize
-    requires { at + 3 ≤ length out.old }
-    ensures { Said out.old at (shown_one b next) result out.new }
+fn say_one(out: &mut Line<'_>, b: u8, next: u8)
+    requires { HasRoom out.old 3 }
+    ensures { Said out.old (shown_one b next) out.new }
 {
     if b < SPACE {
-        return say_picture(out, at, PICTURE + b);
+        say_picture(out, PICTURE + b);
+    } else if b == DELETE {
+        say_picture(out, DELETE_PICTURE);
+    } else if is_c1(b, next) {
+        say_picture(out, C1_PICTURE);
+    } else {
+        out.say_byte(b);
     }
-    if b == DELETE {
-        return say_picture(out, at, DELETE_PICTURE);
-    }
-    if is_c1(b, next) {
-        return say_picture(out, at, C1_PICTURE);
-    }
-    saying::say_byte(out, at, b)
 }
 
 // How many bytes are shown so.
@@ -125,158 +111,131 @@ fn size_one(b: u8, next: u8) -> usize
     if is_c1(b, next) { 2 } else { 1 }
 }
 
-// The byte at a place, 0 past the end.
-fn byte_at(bytes: &[u8], at: usize) -> u8
-    ensures { result ≡ get_or bytes.now at 0 }
+// Adds what the first character of some bytes is shown by, and answers how many of them that stands for. 0
+// stands for the byte after the last.
+fn say_next(out: &mut Line<'_>, bytes: &[u8]) -> usize
+    requires { (0 < length bytes.now) × HasRoom out.old 3 }
+    ensures said { Said out.old (shown_one (get_or bytes.now 0 0) (get_or bytes.now 1 0)) out.new }
+    ensures value { result ≡ size_one (get_or bytes.now 0 0) (get_or bytes.now 1 0) }
 {
-    if at < bytes.len() { bytes[at] } else { 0 }
+    let b = bytes[0];
+    let next = bytes.get(1).copied().unwrap_or(0);
+    say_one(out, b, next);
+    size_one(b, next)
 }
 
 // Adds bytes, control characters by their pictures.
-pub fn say_shown(out: &mut [u8], at: usize, bytes: &[u8]) -> usize
-    requires { at + 3 * length bytes.now ≤ length out.old }
-    ensures { Said out.old at (shown bytes.now) result out.new }
+pub fn say_shown(out: &mut Line<'_>, bytes: &[u8])
+    requires { HasRoom out.old (3 * length bytes.now) }
+    ensures { Said out.old (shown bytes.now) out.new }
 {
-    let mut i = 0;
-    let mut to = at;
-    while i < bytes.len() {
-        let b = bytes[i];
-        let next = byte_at(bytes, i + 1);
-        to = say_one(out, to, b, next);
-        i += size_one(b, next);
+    let mut rest = bytes;
+    while 0 < rest.len() {
+        let size = say_next(out, rest);
+        rest = &rest[size..];
     }
-    to
 }
 
 // Adds what of a line the printer drops, if it drops anything, with ten bytes before it that say so.
-fn say_dropped(out: &mut [u8], at: usize, line: &[u8], wide: bool, dropped: usize) -> usize
-    requires { (dropped ≤ length line.now) × (at + 10 + 3 * (length line.now - dropped) ≤ length out.old) }
-    ensures { Said out.old at (dropped_part line.now wide dropped) result out.new }
+fn say_dropped(out: &mut Line<'_>, line: &[u8], dropped: Option<Offset>)
+    requires { (dropped_at line.now dropped ≤ length line.now) × HasRoom out.old (10 + 3 * (length line.now - dropped_at line.now dropped)) }
+    ensures { Said out.old (dropped_part line.now dropped) out.new }
 {
-    if !wide {
-        return at;
+    if let Some(place) = dropped {
+        out.say(b" dropped: ");
+        say_shown(out, &line[place.0..]);
     }
-    let named = saying::say(out, at, b" dropped: ");
-    say_shown(out, named, &line[dropped..])
 }
 
 // Adds the kept part of a line, spaces up to the last column, and the edge of the paper.
-fn say_kept(out: &mut [u8], line: &[u8], kept: Kept, width: usize) -> usize
-    requires { Keeps width line.now kept × (row_most ≤ length out.old) }
-    ensures { Said out.old 0 (kept_part width line.now kept) result out.new }
+#[tactic(auto, using(crate::proofs::Rows::keeping))]
+fn say_kept(out: &mut Line<'_>, line: &[u8], kept: Kept, width: usize)
+    requires { Keeps width line.now kept × HasRoom out.old row_most }
+    ensures { Said out.old (kept_part width line.now kept) out.new }
 {
-    let end = kept.end.0;
-    let said = say_shown(out, 0, &line[..end]);
-    let padded = saying::say_times(out, said, SPACE, width - kept.columns.0);
-    saying::say_byte(out, padded, EDGE)
+    say_shown(out, &line[..kept.end.0]);
+    out.say_times(SPACE, width - kept.columns.0);
+    out.say(b"|");
 }
 
-// The row of a line that is cut.
-fn say_row(out: &mut [u8], line: &[u8], cut: Cut, width: usize) -> usize
-    requires { Sits width line.now cut × (row_most ≤ length out.old) }
-    ensures { Said out.old 0 (row_by width line.now cut) result out.new }
+// Adds the row of a line that is cut.
+fn say_row(out: &mut Line<'_>, line: &[u8], cut: Cut, width: usize)
+    requires { Sits width line.now cut × HasRoom out.old row_most }
+    ensures { Said out.old (row_by width line.now cut) out.new }
 {
-    let kept = cut.kept;
-    let edge = say_kept(out, line, kept, width);
-    let all = say_dropped(out, edge, line, cut.wide, cut.dropped.0);
-    saying::say_byte(out, all, NEWLINE)
+    say_kept(out, line, cut.kept, width);
+    say_dropped(out, line, cut.dropped);
+    out.say(b"\n");
 }
 
-// The row of a line.
-fn say_line(out: &mut [u8], line: &[u8], width: usize) -> Drawn
-    requires { (row_most ≤ length out.old) × (width ≤ width_most) × (length line.now ≤ text_most) × Whole line.now }
-    ensures said { Said out.old 0 (row_of width line.now) result.len out.new }
-    ensures wide_value { result.wide ≡ wide_of width line.now }
+// Adds the row of a line, and answers whether the line is too wide.
+fn say_line(out: &mut Line<'_>, line: &[u8], width: usize) -> bool
+    requires { HasRoom out.old row_most × (width ≤ width_most) × (length line.now ≤ text_most) × Whole line.now }
+    ensures said { Said out.old (row_of width line.now) out.new }
+    ensures wide_value { result ≡ wide_of width line.now }
 {
     let cut = cuts::cut_of(line, width);
-    let len = say_row(out, line, cut, width);
-    Drawn {
-        len,
-        wide: cut.wide,
-    }
+    say_row(out, line, cut, width);
+    cut.dropped.is_some()
 }
 
-// The row of the line that starts at a place of a text: its kept part, spaces up to the last column, the
+// Adds the row of the line that starts at a place of a text: its kept part, spaces up to the last column, the
 // edge of the paper, and what is dropped.
-pub fn row(out: &mut [u8], text: &[u8], from: usize, width: usize) -> Printed
-    requires { (row_most ≤ length out.old) × (width ≤ width_most) × (length text.now ≤ text_most) × (from ≤ length text.now) × Whole (drop from text.now) }
-    ensures said { Said out.old 0 (row_of width (body_of text.now (line_at text.now from))) result.len out.new }
+pub fn row(out: &mut Line<'_>, text: &[u8], from: usize, width: usize) -> Printed
+    requires { HasRoom out.old row_most × (width ≤ width_most) × (length text.now ≤ text_most) × (from ≤ length text.now) × Whole (drop from text.now) }
+    ensures said { Said out.old (row_of width (body_of text.now (line_at text.now from))) out.new }
     ensures next_value { (result.next ≡ next_line text.now from) × (result.wide ≡ wide_of width (body_of text.now (line_at text.now from))) }
 {
     let end = lines::line_end(text, from);
     let body = lines::body_end(text, from, end);
-    let drawn = say_line(out, &text[from..body], width);
+    let wide = say_line(out, &text[from..body], width);
     let next = end + 1;
-    Printed {
-        len: drawn.len,
-        next,
-        wide: drawn.wide,
-    }
+    Printed { next, wide }
 }
 
 // The last digit of a number.
 fn digit(n: usize) -> u8
     ensures { result ≡ digit_of (n % 10) }
 {
-    (ZERO + n % 10) as u8
+    b'0' + (n % 10) as u8
 }
 
 // What the ruler's first row has over a column: `v` over the last one, the tens at each tenth.
+#[tactic(auto, using(crate::proofs::Ruling::columns))]
 fn top_mark(width: usize, column: usize) -> u8
     ensures { result ≡ top_mark width column }
 {
     if column == width {
-        return LAST;
+        LAST
+    } else if column % 10 == 0 {
+        digit(column / 10)
+    } else {
+        SPACE
     }
-    if column % 10 == 0 {
-        return digit(column / 10);
-    }
-    SPACE
 }
 
-// What a row of the ruler has at a column.
-fn mark(top: bool, width: usize, column: usize) -> u8
-    ensures { result ≡ mark_of top width column }
+// Adds the marks of all columns, each as it is given for its column, from 1 on.
+fn say_marks<F: Fn(usize) -> u8>(out: &mut Line<'_>, width: usize, mark: F)
+    requires { HasRoom out.old width × F.IsAlwaysCallable mark }
+    ensures said { (f : ℕ → ℕ) → Marks (F.post mark) width f → Said out.old (marks_from f 0 width) out.new }
+    ensures count { out.new.len ≡ out.old.len + width }
+    ensures long { length out.new.room.now ≡ length out.old.room.now }
 {
-    if top {
-        return top_mark(width, column);
+    for passed in 0..width {
+        out.say_byte(mark(passed + 1));
     }
-    digit(column)
 }
 
-// Adds the marks of all columns.
-fn say_marks(out: &mut [u8], at: usize, top: bool, width: usize) -> usize
-    requires { at + width ≤ length out.old }
-    ensures { Said out.old at (marks_of top width) result out.new }
-{
-    let mut column = 0;
-    let mut to = at;
-    while column < width {
-        column += 1;
-        to = saying::say_byte(out, to, mark(top, width, column));
-    }
-    to
-}
-
-// Adds the ruler's second row: the last digit of each column, and the edge of the paper.
-fn say_digits(out: &mut [u8], at: usize, width: usize) -> usize
-    requires { at + width + 2 ≤ length out.old }
-    ensures { Said out.old at (digits_of width) result out.new }
-{
-    let digits = say_marks(out, at, false, width);
-    let edge = saying::say_byte(out, digits, EDGE);
-    saying::say_byte(out, edge, NEWLINE)
-}
-
-// The ruler: a row with the tens and a mark over the last column, and a row with the last digit of each
+// Adds the ruler: a row with the tens and a mark over the last column, and a row with the last digit of each
 // column and the edge of the paper.
-pub fn ruler(out: &mut [u8], width: usize) -> usize
-    requires { (row_most ≤ length out.old) × (width ≤ width_most) }
-    ensures { Said out.old 0 (ruler_of width) result out.new }
+pub fn ruler(out: &mut Line<'_>, width: usize)
+    requires { HasRoom out.old row_most × (width ≤ width_most) }
+    ensures { Said out.old (ruler_of width) out.new }
 {
-    let top = say_marks(out, 0, true, width);
-    let first = saying::say_byte(out, top, NEWLINE);
-    say_digits(out, first, width)
+    say_marks(out, width, |column| top_mark(width, column));
+    out.say(b"\n");
+    say_marks(out, width, digit);
+    out.say(b"|\n");
 }
 
 // The number of the first line that is too wide, where one more is, so many lines having come.
@@ -287,46 +246,40 @@ fn first_of(tally: Tally, lines: u64) -> u64
 }
 
 // The tally with one more line.
+#[tactic(auto, using(crate::proofs::Tallies::tallies))]
 pub fn counted(tally: Tally, wide: bool) -> Tally
     requires { Small tally }
     ensures { result ≡ counted_of tally wide }
 {
     let lines = tally.lines + 1;
     if !wide {
-        return Tally {
-            lines,
-            wide: tally.wide,
-            first: tally.first,
-        };
+        return Tally { lines, ..tally };
     }
-    let first = first_of(tally, lines);
-    let count = tally.wide + 1;
     Tally {
         lines,
-        wide: count,
-        first,
+        wide: tally.wide + 1,
+        first: first_of(tally, lines),
     }
 }
 
 // Adds which line is the first that is too wide, if one is: 23 bytes that say so, and a number.
-fn say_first(out: &mut [u8], at: usize, tally: Tally) -> usize
-    requires { at + 43 ≤ length out.old }
-    ensures said { Said out.old at (first_wide tally) result out.new }
-    ensures upper_bound { result ≤ at + 43 }
+fn say_first(out: &mut Line<'_>, tally: Tally)
+    requires { HasRoom out.old 43 }
+    ensures said { Said out.old (first_wide tally) out.new }
+    ensures upper_bound { out.new.len ≤ out.old.len + 43 }
 {
-    if tally.wide == 0 {
-        return at;
+    if tally.wide != 0 {
+        out.say_named(b", first too wide: line ", tally.first);
     }
-    saying::say_named(out, at, b", first too wide: line ", tally.first)
 }
 
-// The line that counts the rows.
-pub fn summary(out: &mut [u8], tally: Tally) -> usize
-    requires { row_most ≤ length out.old }
-    ensures { Said out.old 0 (summary_of tally) result out.new }
+// Adds the line that counts the rows.
+pub fn summary(out: &mut Line<'_>, tally: Tally)
+    requires { HasRoom out.old row_most }
+    ensures { Said out.old (summary_of tally) out.new }
 {
-    let lines = saying::say_named(out, 0, b"lines: ", tally.lines);
-    let wide = saying::say_named(out, lines, b", too wide: ", tally.wide);
-    let first = say_first(out, wide, tally);
-    saying::say_byte(out, first, NEWLINE)
+    out.say_named(b"lines: ", tally.lines);
+    out.say_named(b", too wide: ", tally.wide);
+    say_first(out, tally);
+    out.say(b"\n");
 }

@@ -6,8 +6,7 @@
 // to descriptor 3 too, which tools/slip reads; without it no such descriptor is touched.
 #![tactic(auto)]
 
-ghost use Rattle.std.specs.Prelude.{◌≡◌, ◌≤◌, length};
-ghost use Rattle.slips.specs.Rooms.{block_room};
+ghost use Rattle.std.specs.Prelude.{◌≤◌};
 
 use slips::{BLOCK_ROOM, Ends};
 use std::env::Env;
@@ -25,8 +24,8 @@ fn wants_status(rt: &HostRuntime) -> bool {
 }
 
 // Does what the arguments from a place on ask for.
-fn run_from(rt: &HostRuntime, block: &mut [u8], first: usize) -> u8
-    requires { (length block.old ≡ block_room) × (first ≤ 2) }
+fn run_from(rt: &HostRuntime, block: &mut [u8; BLOCK_ROOM], first: usize) -> u8
+    requires { first ≤ 2 }
 {
     let n = slips::gather(rt, block, first);
     let mut ends = Ends {

@@ -21,16 +21,22 @@ const PATH_ROOM: usize = 4096;
 // The bytes of the command lines that are run.
 const LINES_ROOM: usize = 65536;
 
-fn parted(b: u8) -> u8 {
-    if b == SPACE { 0 } else { b }
-}
-
 // Parts the words of a command line as arguments come: by a 0.
 fn part_words(line: &mut [u8]) {
-    let mut i = 0;
-    while i < line.len() {
-        line[i] = parted(line[i]);
-        i += 1;
+    for b in line.iter_mut() {
+        if *b == SPACE {
+            *b = 0;
+        }
+    }
+}
+
+// How many bytes a command line has before its newline.
+fn body_len(line: &[u8]) -> usize
+    ensures { result ≤ length line.now }
+{
+    match line.strip_suffix(b"\n") {
+        Some(body) => body.len(),
+        None => line.len(),
     }
 }
 
@@ -56,22 +62,16 @@ fn run_case(rt: &HostRuntime, line: &mut [u8], input: &[u8]) -> io::Result<()> {
 }
 
 // Runs each of the command lines.
-fn run_all(rt: &HostRuntime, lines: &mut [u8], input: &[u8]) -> io::Result<()>
-    requires { length lines.old ≤ 65536 }
-{
-    let mut from = 0;
-    while from < lines.len() {
-        let end = streams::end_of_part(lines, from, NEWLINE);
-        run_case(rt, &mut lines[from..end], input)?;
-        from = end + 1;
+fn run_all(rt: &HostRuntime, lines: &mut [u8], input: &[u8]) -> io::Result<()> {
+    for line in lines.split_inclusive_mut(|b| *b == NEWLINE) {
+        let end = body_len(line);
+        run_case(rt, &mut line[..end], input)?;
     }
     Ok(())
 }
 
 // Runs each command line of a file.
-fn run_file(rt: &HostRuntime, name: &[u8], lines: &mut [u8], input: &[u8]) -> io::Result<()>
-    requires { length lines.old ≤ 65536 }
-{
+fn run_file(rt: &HostRuntime, name: &[u8], lines: &mut [u8], input: &[u8]) -> io::Result<()> {
     let mut file = streams::open(rt, name)?;
     let n = streams::read_full(&mut file, lines);
     run_all(rt, &mut lines[..n], input)
@@ -81,10 +81,7 @@ fn run_file(rt: &HostRuntime, name: &[u8], lines: &mut [u8], input: &[u8]) -> io
 fn argument(rt: &HostRuntime, k: usize, word: &mut [u8]) -> usize
     ensures { result ≤ length word.new }
 {
-    match rt.arg(k, word) {
-        Ok(n) => n,
-        Err(_) => 0,
-    }
+    rt.arg(k, word).unwrap_or(0)
 }
 
 fn main(rt: HostRuntime) -> io::Result<()> {

@@ -1,70 +1,62 @@
--- The slip: which texts are shown, one law for each way through the tests, and the loop over the lines of one.
-use mathlib.Core.Path.{◌≡◌, refl, sym, ◌∙◌}
+-- The slip: which texts are shown, and the loop over the lines of one.
+use mathlib.Core.Path.{◌≡◌, refl, sym, ap, ◌∙◌}
 use mathlib.Core.List.{List}
 use mathlib.Core.Bool.{Bool, true, false}
 use Prim.Native.Nat.{ℕ, ◌+◌, ◌-◌, ◌≤◌, ◌<◌}
 use native.Mathlib.Omega.{arith}
 use lib.ListN.{length, drop}
 use lib.Dec.{ltb}
-use borrow.Author.Tests.{lt-ltb, le-ltb, ltb-false}
+use Rattle.std.specs.Prelude.{Result, Ok, Err, IfOk, ⊤}
 use Rattle.units.specs.declared.Answer.{Answer}
-use Rattle.units.specs.declared.Offset.{Offset}
+use Rattle.units.specs.declared.Columns.{Columns}
 use Rattle.units.specs.Limits.{text_most, width_most}
-use Rattle.units.specs.Answers.{success, refusal}
-use Rattle.chars.specs.declared.Checked.{Checked}
-use Rattle.chars.specs.declared.Checked.TheVariants as utf8
-use Rattle.chars.specs.Utf8.{first_fault, Whole, checked}
-use Rattle.chars.proofs.Laws.{fault_fits}
-use Rattle.chars.proofs.Reading.{checked_fault, checked_whole}
+use Rattle.units.specs.Answers.{success}
+use Rattle.chars.specs.Utf8.{first_fault, Whole}
+use Rattle.limits.specs.declared.TextRefusal.{TextRefusal}
+use Rattle.limits.specs.Limits.{admitted, narrow, refusal_of}
+use Rattle.limits.proofs.Laws.{Admitted, admitted_ok, narrow_ok}
 use Rattle.logic.proofs.Choice.{both}
 use Rattle.lines.specs.Lines.{next_line}
 use Rattle.lines.proofs.Laws.{next_later, next_whole}
 use Rattle.shown.specs.declared.Tally.{Tally}
 use Rattle.shown.specs.Slip.{counted_of}
-use Rattle.slips.specs.Show.{Shows, show_answer}
+use Rattle.slips.specs.Show.{Shows, shown_at, show_answer}
 
-module _ (s : List ℕ) (width : ℕ) where
-  pub show_long : {a : Answer} → text_most < length s → a ≡ refusal 1 (length s) → a ≡ show_answer s width
-  unfolding show_answer
-  show_long l e = rw (lt-ltb text_most (length s) l) e
+-- The numbers of document 01 for what the tests answer.
+abbrev answer_from : Result Columns TextRefusal → Answer
+answer_from (Ok c) = success 0
+answer_from (Err why) = refusal_of why
 
-  module _ {r : Checked} (l : length s ≤ text_most) (e : r ≡ checked s) where
-    pub show_fault : {a : Answer} {o : Offset} → r ≡ utf8.Fault o → a ≡ refusal 2 o.0 → a ≡ show_answer s width
-    unfolding show_answer
-    show_fault {a} {o} p q =
-        let f = checked_fault s (sym p ∙ e) in
-        rw (le-ltb text_most (length s) l, lt-ltb (first_fault s) (length s) f.1) (q ∙ rw f.0)
-
-    module _ {a : Answer} (p : r ≡ utf8.Whole) where
-      pub show_wide : width_most < width → a ≡ refusal 3 0 → a ≡ show_answer s width
-      unfolding show_answer
-      show_wide h q =
-          let w : Whole s = checked_whole s (sym p ∙ e) in
-          rw (le-ltb text_most (length s) l, le-ltb (first_fault s) (length s) (omega arith), lt-ltb width_most width h) q
-
-      pub show_done : width ≤ width_most → a ≡ success 0 → a ≡ show_answer s width
-      unfolding show_answer
-      show_done h q =
-          let w : Whole s = checked_whole s (sym p ∙ e) in
-          rw (le-ltb text_most (length s) l, le-ltb (first_fault s) (length s) (omega arith), le-ltb width_most width h) q
-
-pub ruleset answering = (show_long, show_fault, show_wide, show_done)
-
--- What is not refused is shown.
-pub show_shows : (s : List ℕ) (width : ℕ) {a : Answer} → a ≡ show_answer s width → a.number ≡ 0 → Shows s width
-unfolding show_answer
-show_shows s width e z =
+answer_shown : (s : List ℕ) (width : ℕ) → answer_from (shown_at s width) ≡ show_answer s width
+unfolding show_answer narrow
+answer_shown s width =
     both (ltb text_most (length s))
-    (λ p. let k : 1 ≡ 0 = rw (e, p) at z in absurd (omega arith))
-    (λ p. both (ltb (first_fault s) (length s))
-    (λ q. let k : 2 ≡ 0 = rw (e, p, q) at z in absurd (omega arith))
-    (λ q. both (ltb width_most width)
-    (λ w. let k : 3 ≡ 0 = rw (e, p, q, w) at z in absurd (omega arith))
-    (λ w. record {
-      short = ltb-false text_most (length s) p;
-      whole = omega (arith, ltb-false (first_fault s) (length s) q, fault_fits s);
-      narrow = ltb-false width_most width w;
-    })))
+    (λ t. rw t)
+    (λ t. both (ltb (first_fault s) (length s))
+    (λ u. rw (t, u))
+    (λ u. both (ltb width_most width)
+    (λ v. rw (t, u, v))
+    (λ v. rw (t, u, v))))
+
+module _ (s : List ℕ) (width : ℕ) {r : Result Columns TextRefusal} {a : Answer} (e : r ≡ shown_at s width) where
+  pub show_done : {c : Columns} → r ≡ Ok c → a ≡ success 0 → a ≡ show_answer s width
+  show_done p q = q ∙ ap answer_from (sym p ∙ e) ∙ answer_shown s width
+
+  pub show_refused : {why : TextRefusal} → r ≡ Err why → a ≡ refusal_of why → a ≡ show_answer s width
+  show_refused p q = q ∙ ap answer_from (sym p ∙ e) ∙ answer_shown s width
+
+pub ruleset answering = (show_done, show_refused)
+
+-- What is not refused is shown, on a slip of the columns that are asked for.
+pub shows_if : (s : List ℕ) (width : ℕ) {a : Result ⊤ TextRefusal} {r : Result Columns TextRefusal} → a ≡ admitted text_most s → a ≡ Ok tt → r ≡ narrow width → IfOk r (λ c. (c.0 ≡ width) × Shows s width)
+shows_if s width {a} {r} e p = go r
+  where
+    front : Admitted text_most s
+    front = admitted_ok text_most s (sym p ∙ e)
+
+    go : (r : Result Columns TextRefusal) → r ≡ narrow width → IfOk r (λ c. (c.0 ≡ width) × Shows s width)
+    go (Ok c) q = let k = narrow_ok width q in (ap (λ (c : Columns). c.0) k.0, record { short = front.short; whole = front.whole; narrow = k.1 })
+    go (Err why) q = tt
 
 -- ---- the lines
 

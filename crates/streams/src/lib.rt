@@ -17,33 +17,32 @@ pub fn open(rt: &HostRuntime, name: &[u8]) -> io::Result<File> {
     }
 }
 
-// Reads until the buffer is full, the input ends or a read fails. Answers how many bytes came to its start;
-// of a reader whose bytes are known, they are those that it has no longer.
+// Reads until the buffer is full, the input ends or a read fails. Answers how many bytes came to its start,
+// and the error of the read that failed; of a reader whose bytes are known, the bytes are those that it has no
+// longer, before an error too.
+pub fn read_until_error<R: Read>(input: &mut R, buffer: &mut [u8]) -> (usize, io::Result<()>)
+    ensures in_bounds { result.0 ≤ length buffer.new }
+    ensures same_len { length buffer.new ≡ length buffer.old }
+    ensures bytes { Consumes (R.remaining input.old) (R.remaining input.new) (take result.0 buffer.new) }
+{
+    let mut done = 0;
+    while done < buffer.len() {
+        match input.read(&mut buffer[done..]) {
+            Ok(0) => break,
+            Ok(n) => done += n,
+            Err(why) => return (done, Err(why)),
+        }
+    }
+    (done, Ok(()))
+}
+
+// The same, with a failed read taken for the end: how many bytes came to the buffer's start.
 pub fn read_full<R: Read>(input: &mut R, buffer: &mut [u8]) -> usize
     ensures in_bounds { result ≤ length buffer.new }
     ensures same_len { length buffer.new ≡ length buffer.old }
     ensures bytes { Consumes (R.remaining input.old) (R.remaining input.new) (take result buffer.new) }
 {
-    let mut done = 0;
-    while done < buffer.len() {
-        let n = read_some(input, &mut buffer[done..]);
-        if n == 0 {
-            break;
-        }
-        done += n;
-    }
-    done
-}
-
-// One read: how many bytes came, 0 at the end of the input and where the read fails.
-fn read_some<R: Read>(input: &mut R, part: &mut [u8]) -> usize
-    ensures in_bounds { result ≤ length part.new }
-    ensures bytes { Consumes (R.remaining input.old) (R.remaining input.new) (take result part.new) }
-{
-    match input.read(part) {
-        Ok(n) => n,
-        Err(_) => 0,
-    }
+    read_until_error(input, buffer).0
 }
 
 // Where the part of a text that starts at a place ends: before the first mark from there on, or with the text.
@@ -54,9 +53,8 @@ pub fn end_of_part(text: &[u8], from: usize, mark: u8) -> usize
     ensures none_inside { (k : ℕ) → from ≤ k → k < result → slice_index text.now k ≢ mark }
     ensures at_mark { result < length text.now → slice_index text.now result ≡ mark }
 {
-    let mut at = from;
-    while at < text.len() && text[at] != mark {
-        at += 1;
+    match text[from..].iter().position(|b| *b == mark) {
+        Some(n) => from + n,
+        None => text.len(),
     }
-    at
 }

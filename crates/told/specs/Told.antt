@@ -1,12 +1,11 @@
 -- The lines of answers.
-use Rattle.std.specs.Prelude.{ℕ, List, [], ◌++◌, length}
+use Rattle.std.specs.Prelude.{ℕ, List, [], ◌++◌, Option, Some, None}
 use Rattle.saying.specs.Saying.{decimal_of}
 use Rattle.saying.specs.Ascii.{ascii}
 use Rattle.words.specs.declared.Word.{Word}
 use Rattle.words.specs.declared.Step.{Step}
 use Rattle.words.specs.declared.Step.TheVariants.{Found, End, Fault}
 use Rattle.told.specs.declared.Told.{Told}
-use Rattle.told.specs.declared.Told.TheVariants.{Line, NoMore}
 
 -- A name and a number.
 abbrev pub named_line : List ℕ → ℕ → List ℕ
@@ -40,10 +39,10 @@ numbers_of End = []
 numbers_of (Fault place) = []
 
 -- and what is answered.
-abbrev pub told_of : Step → Told
-told_of (Found word next) = Line (length (word_numbers word)) word next
-told_of End = NoMore
-told_of (Fault place) = NoMore
+abbrev pub told_of : Step → Option Told
+told_of (Found word next) = Some (record { word = word; next = next })
+told_of End = None
+told_of (Fault place) = None
 
 -- No line is longer.
 abbrev pub line_most : ℕ

@@ -1,2 +1,3 @@
 pub mod Limits
 pub mod Answers
+pub mod Numbers

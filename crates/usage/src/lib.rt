@@ -1,13 +1,13 @@
-// What `slip` says of its own use, line by line in a lent buffer: what is wrong with the arguments, and how
+// What `slip` says of its own use, line by line: what is wrong with the arguments, and how
 // it is used. What is wrong is decided in `asked`; nothing here writes to a file.
 #![tactic(auto)]
 
-ghost use Rattle.std.specs.Prelude.{◌+◌, ◌≤◌, length};
-ghost use Rattle.saying.specs.Saying.{Said};
+ghost use Rattle.std.specs.Prelude.{◌≡◌, ◌+◌, ◌≤◌, length};
+ghost use Rattle.saying.specs.Saying.{HasRoom, Said};
 ghost use Rattle.usage.specs.Usage.{wrong_most, wrong_words, misuse_line, usage_most, usage_line};
 
 use asked::Wrong;
-use saying::say;
+use saying::Line;
 
 // The most bytes that a line on misuse has beside the word that it names.
 pub const MISUSE_MOST: usize = 64;
@@ -18,88 +18,53 @@ pub const USAGE_MOST: usize = 96;
 // and how many such lines there are.
 pub const USAGE_LINES: usize = 11;
 
-const NEWLINE: u8 = 0x0A;
+// The lines themselves.
+const USAGE: [&[u8]; USAGE_LINES] = [
+    b"slip measure [FILE]              the columns of a text\n",
+    b"slip words [FILE]                its words: start, end, spaces, columns, bytes\n",
+    b"slip fill [WIDTH] [FILE]         the text, filled\n",
+    b"slip show [WIDTH] [FILE]         the slip as printed, and what the printer drops\n",
+    b"slip check [WIDTH] BEFORE AFTER  whether AFTER is BEFORE, well filled\n",
+    b"slip help                        these lines\n",
+    b"\n",
+    b"No FILE, or -, is standard input. No WIDTH is 42 columns.\n",
+    b"One word of digits alone is a WIDTH; a file of that name is ./42.\n",
+    b"The exit status is 0 where it is done or accepted, 1 where it is refused,\n",
+    b"2 where the arguments are wrong, or a file is not read or not written.\n",
+];
 
-// Adds what is wrong, up to the word that is.
-fn say_wrong(out: &mut [u8], at: usize, wrong: Wrong) -> usize
-    requires { at + wrong_most ≤ length out.old }
-    ensures said { Said out.old at (wrong_words wrong) result out.new }
-    ensures upper_bound { result ≤ at + wrong_most }
+// What is wrong, up to the word that is.
+fn wrong_words(wrong: Wrong) -> &'static [u8]
+    ensures value { result.now ≡ wrong_words wrong }
+    ensures upper_bound { length result.now ≤ wrong_most }
 {
     match wrong {
-        Wrong::NoCommand => say(out, at, b"slip: no command is given"),
-        Wrong::NoSuchCommand => say(out, at, b"slip: no such command: "),
-        Wrong::NotWidth => say(out, at, b"slip: not a width: "),
-        Wrong::TooFew => say(out, at, b"slip: check takes two texts, BEFORE and AFTER"),
-        Wrong::TooMany => say(out, at, b"slip: too many arguments, from here on: "),
-        Wrong::BothInput => say(out, at, b"slip: standard input is not both texts: "),
-        Wrong::TooLong => say(out, at, b"slip: an argument is longer than 4095 bytes"),
+        Wrong::NoCommand => b"slip: no command is given",
+        Wrong::NoSuchCommand => b"slip: no such command: ",
+        Wrong::NotWidth => b"slip: not a width: ",
+        Wrong::TooFew => b"slip: check takes two texts, BEFORE and AFTER",
+        Wrong::TooMany => b"slip: too many arguments, from here on: ",
+        Wrong::BothInput => b"slip: standard input is not both texts: ",
+        Wrong::TooLong => b"slip: an argument is longer than 4095 bytes",
     }
 }
 
-// The line that says what is wrong with the arguments, and names the word.
-pub fn misuse_line(out: &mut [u8], wrong: Wrong, word: &[u8]) -> usize
-    requires { wrong_most + length word.now + 1 ≤ length out.old }
-    ensures { Said out.old 0 (misuse_line wrong word.now) result out.new }
+// Adds the line that says what is wrong with the arguments, and names the word.
+pub fn misuse_line(line: &mut Line<'_>, wrong: Wrong, word: &[u8])
+    requires { HasRoom line.old (wrong_most + length word.now + 1) }
+    ensures { Said line.old (misuse_line wrong word.now) line.new }
 {
-    let named = say_wrong(out, 0, wrong);
-    let end = say(out, named, word);
-    saying::say_byte(out, end, NEWLINE)
+    line.say(wrong_words(wrong));
+    line.say(word);
+    line.say(b"\n");
 }
 
-// A line on how `slip` is used, by its number from 0; nothing where there is none.
-pub fn usage_line(out: &mut [u8], k: usize) -> usize
-    requires { usage_most ≤ length out.old }
-    ensures { Said out.old 0 (usage_line k) result out.new }
+// Adds a line on how `slip` is used, by its number from 0; nothing where there is none.
+pub fn usage_line(line: &mut Line<'_>, k: usize)
+    requires { HasRoom line.old usage_most }
+    ensures { Said line.old (usage_line k) line.new }
 {
-    match k {
-        0 => say(
-            out,
-            0,
-            b"slip measure [FILE]              the columns of a text\n",
-        ),
-        1 => say(
-            out,
-            0,
-            b"slip words [FILE]                its words: start, end, spaces, columns, bytes\n",
-        ),
-        2 => say(
-            out,
-            0,
-            b"slip fill [WIDTH] [FILE]         the text, filled\n",
-        ),
-        3 => say(
-            out,
-            0,
-            b"slip show [WIDTH] [FILE]         the slip as printed, and what the printer drops\n",
-        ),
-        4 => say(
-            out,
-            0,
-            b"slip check [WIDTH] BEFORE AFTER  whether AFTER is BEFORE, well filled\n",
-        ),
-        5 => say(out, 0, b"slip help                        these lines\n"),
-        6 => say(out, 0, b"\n"),
-        7 => say(
-            out,
-            0,
-            b"No FILE, or -, is standard input. No WIDTH is 42 columns.\n",
-        ),
-        8 => say(
-            out,
-            0,
-            b"One word of digits alone is a WIDTH; a file of that name is ./42.\n",
-        ),
-        9 => say(
-            out,
-            0,
-            b"The exit status is 0 where it is done or accepted, 1 where it is refused,\n",
-        ),
-        10 => say(
-            out,
-            0,
-            b"2 where the arguments are wrong, or a file is not read or not written.\n",
-        ),
-        _ => 0,
+    if k < USAGE_LINES {
+        line.say(USAGE[k]);
     }
 }

@@ -8,222 +8,138 @@
 // by `replay`. `rust/vectors` makes the file and says what is in it.
 #![tactic(auto)]
 
-ghost use Rattle.std.specs.Prelude.{◌≡◌, ◌≤◌, length};
-
-use replay::{HEAD_BYTES, Head, Tally, Verdict};
+use replay::{CutShort, HEAD_BYTES, Head, Kind, Tally, Verdict};
 use std::io;
 
 // The most bytes that a record asks or stores.
 const PART_MOST: usize = 65535;
 
-// What stands before the first record: no kind has this byte.
-const NO_KIND: u8 = 0;
-
-// The kind of the last record, how the run of its kind stands, the number of the last record, and whether a
-// further one is read.
-#[derive(Clone, Copy)]
+// The kind of the last record, if there was one, how the run of its kind stands, and the number of the last
+// record.
+#[derive(Clone, Copy, Default)]
 struct State {
-    kind: u8,
+    kind: Option<Kind>,
     tally: Tally,
     number: u64,
-    more: bool,
 }
 
-// Writes the name of a kind.
-fn put_kind(rt: &HostRuntime, kind: u8) -> io::Result<()> {
-    match kind {
-        b'M' => put(rt, b"measure"),
-        b'W' => put(rt, b"words"),
-        b'A' => put(rt, b"break_apart"),
-        b'B' => put(rt, b"break_words"),
-        b'F' => put(rt, b"first fit"),
-        b'L' => put(rt, b"least cost"),
-        b'I' => put(rt, b"fill"),
-        _ => put(rt, b"no kind"),
-    }
-}
-
-fn put(rt: &HostRuntime, text: &[u8]) -> io::Result<()> {
-    rt.write_all(text)
-}
-
-fn put_number(rt: &HostRuntime, n: u64) -> io::Result<()> {
-    rt.print(n)
-}
-
-// Writes how a run of records of one kind came out, if there is one.
-fn put_tally(rt: &HostRuntime, kind: u8, tally: Tally) -> io::Result<()> {
-    if tally.replayed == 0 {
-        return Ok(());
-    }
-    put_kind(rt, kind)?;
-    put(rt, b": ")?;
-    put_number(rt, tally.replayed)?;
-    put(rt, b" replayed, ")?;
-    put_number(rt, tally.agreed)?;
-    put(rt, b" agreed, ")?;
-    put_number(rt, tally.tied)?;
-    put(rt, b" tied")?;
-    if tally.first != 0 {
-        put(rt, b", first that differs: record ")?;
-        put_number(rt, tally.first)?;
-    }
-    put(rt, b"\n")
-}
-
-// Writes what ends the replay, and the number of a record.
-fn put_stop(rt: &HostRuntime, why: &[u8], number: u64) -> io::Result<()> {
-    put(rt, why)?;
-    put_number(rt, number)?;
-    put(rt, b"\n")
-}
-
-// A run of records before its first.
-fn fresh() -> Tally {
-    Tally {
-        replayed: 0,
-        agreed: 0,
-        tied: 0,
-        first: 0,
-    }
-}
-
-// Writes how the last run came out and why no further record is read.
-fn stopped(rt: &HostRuntime, state: State, why: &[u8], number: u64) -> io::Result<State> {
-    let tally = state.tally;
-    put_tally(rt, state.kind, tally)?;
-    put_stop(rt, why, number)?;
-    Ok(State {
-        kind: NO_KIND,
-        tally: fresh(),
-        number,
-        more: false,
-    })
-}
-
-// The run that a record of a kind goes on with: the last one, or a new one after the last is written.
-fn run_of(rt: &HostRuntime, state: State, kind: u8) -> io::Result<Tally> {
-    let tally = state.tally;
-    if state.kind == kind {
-        return Ok(tally);
-    }
-    put_tally(rt, state.kind, tally)?;
-    Ok(fresh())
-}
-
-// Counts a record by its verdict.
-fn after(rt: &HostRuntime, state: State, kind: u8, verdict: Verdict) -> io::Result<State> {
-    let number = replay::one_more(state.number);
-    match verdict {
-        Verdict::Unknown => stopped(
-            rt,
-            state,
-            b"stopped at a kind that is not known: record ",
-            number,
-        ),
-        Verdict::Turn => {
-            run_of(rt, state, kind)?;
-            put(rt, b"wrong on purpose from here on\n")?;
-            Ok(State {
-                kind,
-                tally: fresh(),
-                number,
-                more: true,
-            })
+impl State {
+    // Writes how the last run of records of one kind came out, if there is one.
+    fn put_run(self, rt: &HostRuntime) -> io::Result<()> {
+        let tally = self.tally;
+        let Some(kind) = self.kind else {
+            return Ok(());
+        };
+        if tally.replayed == 0 {
+            return Ok(());
         }
-        Verdict::Agreed => Ok(counted(run_of(rt, state, kind)?, kind, verdict, number)),
-        Verdict::Tied => Ok(counted(run_of(rt, state, kind)?, kind, verdict, number)),
-        Verdict::Differs => Ok(counted(run_of(rt, state, kind)?, kind, verdict, number)),
+        let (replayed, agreed, tied) = (tally.replayed, tally.agreed, tally.tied);
+        print!(rt; "{kind}: {replayed} replayed, {agreed} agreed, {tied} tied")?;
+        if let Some(first) = tally.first {
+            print!(rt; ", first that differs: record {first}")?;
+        }
+        println!(rt; "")
     }
-}
 
-fn counted(tally: Tally, kind: u8, verdict: Verdict, number: u64) -> State {
-    let sum = replay::counted(tally, verdict, number);
-    State {
-        kind,
-        tally: sum,
-        number,
-        more: true,
+    // Writes how the last run came out and why no further record is read, with the number of a record.
+    fn stopped(self, rt: &HostRuntime, why: &str, number: u64) -> io::Result<Option<State>> {
+        self.put_run(rt)?;
+        println!(rt; "{why} record {number}")?;
+        Ok(None)
     }
-}
 
-// Reads what a record asks and stores, and replays it.
-fn replay_record(
-    rt: &HostRuntime,
-    state: State,
-    kind: u8,
-    width: u8,
-    asks: u16,
-    stores: u16,
-    asked: &mut [u8],
-    stored: &mut [u8],
-) -> io::Result<State>
-    requires { (length asked.old ≡ 65535) × (length stored.old ≡ 65535) }
-{
-    let n = asks as usize;
-    let m = stores as usize;
-    let first = read(rt, &mut asked[..n]);
-    let second = read(rt, &mut stored[..m]);
-    if replay::is_cut(asks, stores, first + second) {
-        return stopped(rt, state, b"the input is cut after record ", state.number);
+    // The run that a record of a kind goes on with: the last one, or a new one after the last is written.
+    fn run_of(self, rt: &HostRuntime, kind: Option<Kind>) -> io::Result<Tally> {
+        if self.kind == kind {
+            return Ok(self.tally);
+        }
+        self.put_run(rt)?;
+        Ok(Tally::default())
     }
-    let verdict = replay::judge(kind, width, &mut asked[..n], &stored[..m]);
-    after(rt, state, kind, verdict)
-}
 
-// Reads into a part of a buffer until that is full or the input ends. Answers how many bytes came.
-fn read(rt: &HostRuntime, part: &mut [u8]) -> usize
-    requires { length part.old ≤ 65535 }
-    ensures { result ≤ 65535 }
-{
-    streams::read_full(&mut rt.stdin(), part)
-}
+    // Counts a record by its verdict. Answers how the replay goes on, if it does.
+    fn after(
+        self,
+        rt: &HostRuntime,
+        kind: Option<Kind>,
+        verdict: Verdict,
+    ) -> io::Result<Option<State>> {
+        let number = replay::one_more(self.number);
+        match verdict {
+            Verdict::Unknown => self.stopped(rt, "stopped at a kind that is not known:", number),
+            Verdict::Turn => {
+                self.run_of(rt, kind)?;
+                println!(rt; "wrong on purpose from here on")?;
+                Ok(Some(State {
+                    kind,
+                    tally: Tally::default(),
+                    number,
+                }))
+            }
+            Verdict::Agreed | Verdict::Tied | Verdict::Differs => {
+                let tally = replay::counted(self.run_of(rt, kind)?, verdict, number);
+                Ok(Some(State {
+                    kind,
+                    tally,
+                    number,
+                }))
+            }
+        }
+    }
 
-// Reads one record and replays it.
-fn replay_one(
-    rt: &HostRuntime,
-    state: State,
-    asked: &mut [u8],
-    stored: &mut [u8],
-) -> io::Result<State>
-    requires { (length asked.old ≡ 65535) × (length stored.old ≡ 65535) }
-{
-    let mut space = [0u8; HEAD_BYTES];
-    let came = streams::read_full(&mut rt.stdin(), &mut space);
-    let head = replay::head_of(&space[..came]);
-    match head {
-        Head::End => stopped(rt, state, b"the input ends after record ", state.number),
-        Head::Cut => stopped(rt, state, b"the input is cut after record ", state.number),
-        Head::Record {
-            kind,
-            width,
-            asked: asks,
-            stored: stores,
-        } => { replay_record(rt, state, kind, width, asks, stores, asked, stored) }
+    // Reads what a record asks and stores, and replays it. Answers how the replay goes on, if it does.
+    fn replay_record(
+        self,
+        rt: &HostRuntime,
+        head: Head,
+        asked: &mut [u8; PART_MOST],
+        stored: &mut [u8; PART_MOST],
+    ) -> io::Result<Option<State>> {
+        let n = usize::from(head.asked);
+        let m = usize::from(head.stored);
+        let first = streams::read_full(&mut rt.stdin(), &mut asked[..n]);
+        let second = streams::read_full(&mut rt.stdin(), &mut stored[..m]);
+        if replay::is_cut(head.asked, head.stored, first + second) {
+            return self.stopped(rt, "the input is cut after", self.number);
+        }
+        let verdict = replay::judge(head.kind, head.width, &mut asked[..n], &stored[..m]);
+        self.after(rt, Kind::try_from(head.kind).ok(), verdict)
+    }
+
+    // Reads one record and replays it. Answers how the replay goes on, if it does.
+    fn replay_one(
+        self,
+        rt: &HostRuntime,
+        asked: &mut [u8; PART_MOST],
+        stored: &mut [u8; PART_MOST],
+    ) -> io::Result<Option<State>> {
+        let mut space = [0u8; HEAD_BYTES];
+        let came = streams::read_full(&mut rt.stdin(), &mut space);
+        match replay::head_of(&space[..came]) {
+            Ok(Some(head)) => self.replay_record(rt, head, asked, stored),
+            Ok(None) => self.stopped(rt, "the input ends after", self.number),
+            Err(CutShort) => self.stopped(rt, "the input is cut after", self.number),
+        }
     }
 }
 
 // Replays the records of standard input, in order.
-fn replay_all(rt: &HostRuntime, asked: &mut [u8], stored: &mut [u8]) -> io::Result<()>
-    requires { (length asked.old ≡ 65535) × (length stored.old ≡ 65535) }
-{
-    let mut state = State {
-        kind: NO_KIND,
-        tally: fresh(),
-        number: 0,
-        more: true,
-    };
+fn replay_all(
+    rt: &HostRuntime,
+    asked: &mut [u8; PART_MOST],
+    stored: &mut [u8; PART_MOST],
+) -> io::Result<()> {
+    let mut state = State::default();
     // a proved loop ends: this many records come in no day, and in no thousand years
-    let mut left = u64::MAX;
-    while left > 0 && state.more {
-        state = replay_one(rt, state, asked, stored)?;
-        left -= 1;
+    for _ in 0..u64::MAX {
+        let Some(next) = state.replay_one(rt, asked, stored)? else {
+            break;
+        };
+        state = next;
     }
     Ok(())
 }
 
 fn main(rt: HostRuntime) -> io::Result<()> {
-    let mut asked = [0; PART_MOST];
-    let mut stored = [0; PART_MOST];
-    replay_all(&rt, &mut asked, &mut stored)
+    replay_all(&rt, &mut [0; PART_MOST], &mut [0; PART_MOST])
 }

@@ -1,1 +1,4 @@
 pub mod Wire
+pub mod Cells
+pub mod Numbers
+pub mod Bytes

@@ -1,5 +1,7 @@
 -- "wider numbers of a list go as bytes there, high first; bytes left over at the end are no number and are not touched"
-use Rattle.std.specs.Prelude.{ℕ, ◌+◌, ◌*◌, ◌/◌, ◌%◌, List, [], ◌∷◌, length}
+use Rattle.std.specs.Prelude.{ℕ, suc, ◌+◌, ◌*◌, ◌/◌, ◌%◌, List, [], ◌∷◌, length, take, drop}
+use Rattle.std.proofs.Common.{zero}
+use Rattle.std.specs.Int.{Width, w32, w64, byte_len, from_be_bytes}
 
 -- A number of 32 bits as four bytes.
 abbrev pub be32 : ℕ → List ℕ
@@ -32,3 +34,14 @@ places16 l = length l / 2
 -- The places of a list of 64-bit numbers.
 abbrev pub places64 : List ℕ → ℕ
 places64 l = length l / 8
+
+-- The first n numbers of a width that a list of bytes holds, and the 32-bit and the 64-bit numbers that it holds.
+unfoldable pub first_numbers : Width → ℕ → List ℕ → List ℕ
+first_numbers w zero l = []
+first_numbers w (suc n) l = from_be_bytes w (take (byte_len w) l) ∷ first_numbers w n (drop (byte_len w) l)
+
+abbrev pub numbers32 : List ℕ → List ℕ
+numbers32 l = first_numbers w32 (places32 l) l
+
+abbrev pub numbers64 : List ℕ → List ℕ
+numbers64 l = first_numbers w64 (places64 l) l

@@ -1,95 +1,193 @@
-// Numbers of a list as bytes, high first, for callers that pass byte slices: one codec for all lists.
+// Lists of numbers: as they are, and as bytes, high first, for callers that pass byte slices. One trait speaks
+// of both, so that what reads or writes such a list is written once.
 #![tactic(auto)]
 
-ghost use Rattle.std.specs.Prelude.{◌≡◌, ◌+◌, ◌*◌, ◌≤◌, ◌<◌, length, get_or, take};
+ghost use Rattle.std.specs.Prelude.{◌≡◌, ℕ, ◌+◌, ◌*◌, ◌/◌, ◌≤◌, ◌<◌, List, [], ◌∷◌, length, get_or, take};
 ghost use Rattle.std.proofs.lemmas.List.Edits.{sets};
 ghost use Rattle.logic.specs.Flat.{flat};
-ghost use Rattle.wire.specs.Wire.{be16, be32, be64, numbers16};
+ghost use Rattle.wire.specs.Wire.{be16, be32, be64, numbers16, numbers32, numbers64, places16, places32, places64};
+ghost use Rattle.wire.specs.Cells.{CellLaws};
+ghost use Rattle.wire.specs.Numbers.{plain_laws};
+ghost use Rattle.wire.specs.Bytes.{laws16, laws32, laws64};
 
-// Stores a number of 32 bits from `place` on.
-pub fn put32(list: &mut [u8], place: usize, v: u32)
-    requires { place + 4 ≤ length list.old }
-    ensures { list.new ≡ sets list.old place (be32 v) }
-{
-    list[place] = (v / 16777216 % 256) as u8;
-    list[place + 1] = (v / 65536 % 256) as u8;
-    list[place + 2] = (v / 256 % 256) as u8;
-    list[place + 3] = (v % 256) as u8;
+// What a list of numbers N is made of: the numbers themselves, or bytes. `numbers` are those that a list
+// holds, `places` says how many it has room for, `at` where the k-th one lies, and `stored` are the elements
+// that numbers take, `SIZE` each.
+pub trait Cell<N> {
+    ghost numbers: { List Self → List N };
+
+    ghost places: { List Self → ℕ };
+
+    ghost at: { ℕ → ℕ };
+
+    ghost stored: { List N → List Self };
+
+    ghost SIZE: { ℕ };
+
+    const SIZE: usize;
+
+    // How many numbers a list holds.
+    fn count(list: &[Self]) -> usize
+        ensures numbers { result ≡ length (numbers list.now) }
+        ensures places { result ≡ places list.now };
+
+    // The number at an index.
+    fn get(list: &[Self], i: usize) -> N
+        requires { i < length (numbers list.now) }
+        ensures { result ≡ get_or (numbers list.now) i result };
+
+    // Stores a number from an element on.
+    fn store(list: &mut [Self], place: usize, n: N)
+        requires { place + SIZE ≤ length list.old }
+        ensures { list.new ≡ sets list.old place (stored (n ∷ [])) };
+
+    ghost laws: { CellLaws numbers places at stored SIZE };
 }
 
-// Stores a number of 16 bits from `place` on.
-pub fn put16(list: &mut [u8], place: usize, v: u16)
-    requires { place + 2 ≤ length list.old }
-    ensures { list.new ≡ sets list.old place (be16 v) }
+// Stores a number at an index.
+pub fn put<N, C: Cell<N>>(list: &mut [C], k: usize, n: N)
+    requires { k < C.places list.old }
+    ensures { list.new ≡ sets list.old (C.at k) (C.stored (n ∷ [])) }
 {
-    list[place] = (v / 256 % 256) as u8;
-    list[place + 1] = (v % 256) as u8;
+    C::store(list, C::SIZE * k, n);
 }
 
-// How many numbers of 16 bits a list holds.
-pub fn count16(list: &[u8]) -> usize
-    ensures { result ≡ length (numbers16 list.now) }
+// Stores the first n numbers of a list in another.
+pub fn copy_numbers<N, A: Cell<N>, B: Cell<N>>(from: &[A], n: usize, to: &mut [B])
+    requires { (n ≤ length (A.numbers from.now)) × (n ≤ B.places to.old) }
+    ensures { to.new ≡ sets to.old 0 (B.stored (take n (A.numbers from.now))) }
 {
-    list.len() / 2
-}
-
-// The 16-bit number at an index.
-pub fn get16(list: &[u8], i: usize) -> usize
-    requires { i < length (numbers16 list.now) }
-    ensures { (result ≡ get_or (numbers16 list.now) i 0) × (result ≤ 65535) }
-{
-    let high = list[2 * i] as usize;
-    let low = list[2 * i + 1] as usize;
-    high * 256 + low
-}
-
-// Stores a number of 64 bits from `place` on.
-pub fn put64(list: &mut [u8], place: usize, v: u64)
-    requires { place + 8 ≤ length list.old }
-    ensures { list.new ≡ sets list.old place (be64 v) }
-{
-    list[place] = (v / 72057594037927936 % 256) as u8;
-    list[place + 1] = (v / 281474976710656 % 256) as u8;
-    list[place + 2] = (v / 1099511627776 % 256) as u8;
-    list[place + 3] = (v / 4294967296 % 256) as u8;
-    list[place + 4] = (v / 16777216 % 256) as u8;
-    list[place + 5] = (v / 65536 % 256) as u8;
-    list[place + 6] = (v / 256 % 256) as u8;
-    list[place + 7] = (v % 256) as u8;
-}
-
-// Reads the first n numbers of 16 bits into a list.
-pub fn read16s(list: &[u8], n: usize, out: &mut [u16])
-    requires { (n ≤ length (numbers16 list.now)) × (n ≤ length out.old) }
-    ensures { out.new ≡ sets out.old 0 (take n (numbers16 list.now)) }
-{
-    let mut i = 0;
-    while i < n {
-        out[i] = get16(list, i) as u16;
-        i += 1;
+    for k in 0..n {
+        put(to, k, A::get(from, k));
     }
 }
 
-// Stores the first n numbers of a list as bytes, two for each.
-pub fn write16s(list: &[u16], n: usize, out: &mut [u8])
-    requires { (n ≤ length list.now) × (2 * n ≤ length out.old) }
-    ensures { out.new ≡ sets out.old 0 (flat be16 (take n list.now)) }
-{
-    let mut i = 0;
-    while i < n {
-        put16(out, 2 * i, list[i]);
-        i += 1;
+// Numbers as they are.
+impl<N: Copy> Cell<N> for N {
+    ghost numbers = { λ l. l };
+
+    ghost places = { length };
+
+    ghost at = { λ k. k };
+
+    ghost stored = { λ l. l };
+
+    ghost SIZE = { 1 };
+
+    ghost laws = { plain_laws };
+
+    const SIZE: usize = 1;
+
+    fn count(list: &[N]) -> usize {
+        list.len()
+    }
+
+    fn get(list: &[N], i: usize) -> N {
+        list[i]
+    }
+
+    fn store(list: &mut [N], place: usize, n: N) {
+        list[place] = n;
     }
 }
 
-// Stores the first n numbers of a list as bytes, eight for each.
-pub fn write64s(list: &[u64], n: usize, out: &mut [u8])
-    requires { (n ≤ length list.now) × (8 * n ≤ length out.old) }
-    ensures { out.new ≡ sets out.old 0 (flat be64 (take n list.now)) }
-{
-    let mut i = 0;
-    while i < n {
-        put64(out, 8 * i, list[i]);
-        i += 1;
+// Numbers as bytes, high first.
+impl Cell<u16> for u8 {
+    ghost numbers = { numbers16 };
+
+    ghost places = { places16 };
+
+    ghost at = { λ k. 2 * k };
+
+    ghost stored = { flat be16 };
+
+    ghost SIZE = { 2 };
+
+    ghost laws = { laws16 };
+
+    const SIZE: usize = 2;
+
+    #[tactic(auto, using(crate::proofs::Laws::counted16))]
+    fn count(list: &[u8]) -> usize {
+        list.len() / 2
+    }
+
+    #[tactic(auto, using(crate::proofs::Laws::read16))]
+    fn get(list: &[u8], i: usize) -> u16 {
+        let at = 2 * i;
+        let bytes = &list[at..at + 2];
+        u16::from_be_bytes([bytes[0], bytes[1]])
+    }
+
+    fn store(list: &mut [u8], place: usize, n: u16) {
+        list[place..place + 2].copy_from_slice(&n.to_be_bytes());
+    }
+}
+
+impl Cell<u32> for u8 {
+    ghost numbers = { numbers32 };
+
+    ghost places = { places32 };
+
+    ghost at = { λ k. 4 * k };
+
+    ghost stored = { flat be32 };
+
+    ghost SIZE = { 4 };
+
+    ghost laws = { laws32 };
+
+    const SIZE: usize = 4;
+
+    #[tactic(auto, using(crate::proofs::Laws::counted32))]
+    fn count(list: &[u8]) -> usize {
+        list.len() / 4
+    }
+
+    #[tactic(auto, using(crate::proofs::Laws::counted32, crate::proofs::Laws::read32))]
+    fn get(list: &[u8], i: usize) -> u32 {
+        let at = 4 * i;
+        let bytes = &list[at..at + 4];
+        u32::from_be_bytes([bytes[0], bytes[1], bytes[2], bytes[3]])
+    }
+
+    #[tactic(auto, using(crate::proofs::Laws::stored32))]
+    fn store(list: &mut [u8], place: usize, n: u32) {
+        list[place..place + 4].copy_from_slice(&n.to_be_bytes());
+    }
+}
+
+impl Cell<u64> for u8 {
+    ghost numbers = { numbers64 };
+
+    ghost places = { places64 };
+
+    ghost at = { λ k. 8 * k };
+
+    ghost stored = { flat be64 };
+
+    ghost SIZE = { 8 };
+
+    ghost laws = { laws64 };
+
+    const SIZE: usize = 8;
+
+    #[tactic(auto, using(crate::proofs::Laws::counted64))]
+    fn count(list: &[u8]) -> usize {
+        list.len() / 8
+    }
+
+    #[tactic(auto, using(crate::proofs::Laws::counted64, crate::proofs::Laws::read64))]
+    fn get(list: &[u8], i: usize) -> u64 {
+        let at = 8 * i;
+        let bytes = &list[at..at + 8];
+        u64::from_be_bytes([
+            bytes[0], bytes[1], bytes[2], bytes[3], bytes[4], bytes[5], bytes[6], bytes[7],
+        ])
+    }
+
+    #[tactic(auto, using(crate::proofs::Laws::stored64))]
+    fn store(list: &mut [u8], place: usize, n: u64) {
+        list[place..place + 8].copy_from_slice(&n.to_be_bytes());
     }
 }

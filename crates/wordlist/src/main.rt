@@ -10,14 +10,15 @@
 // whitespace length, width). What a word is stands in the crates that are called.
 #![tactic(auto)]
 
-ghost use Rattle.std.specs.Prelude.{◌≡◌, ◌≤◌, min, length};
+ghost use Rattle.std.specs.Prelude.{◌≡◌, ◌≤◌, length};
+ghost use Rattle.words.specs.Lists.{room};
 ghost use Rattle.wordlist.specs.Wordlist.{answered, listed};
 
-use reader::{Found, Turn};
+use reader::Turn;
 use std::env::Env;
 use std::io;
-use units::Answer;
-use words::Word;
+use units::{Answer, Columns, Offset};
+use words::{Word, WordLists};
 
 // Between two texts of the input.
 const BETWEEN: u8 = 0xFF;
@@ -42,9 +43,16 @@ enum Entry {
     Broken,
 }
 
-// Writes four numbers on a line.
-fn put_four(rt: &HostRuntime, a: u64, b: u64, c: u64, d: u64) -> io::Result<()> {
-    println!(rt; "{a} {b} {c} {d}")
+// Each of them, in the order in which they are called.
+const ENTRIES: [Entry; 3] = [Entry::Words, Entry::Apart, Entry::Broken];
+
+// What an entry is called.
+fn name_of(entry: Entry) -> &'static str {
+    match entry {
+        Entry::Words => "find_words",
+        Entry::Apart => "break_apart",
+        Entry::Broken => "break_words",
+    }
 }
 
 // Writes the name of an entry and its answer on a line.
@@ -55,23 +63,20 @@ fn put_answer(rt: &HostRuntime, entry: &str, a: Answer) -> io::Result<()> {
     println!(rt; "{entry} {number} {place} {count}")
 }
 
-// Writes a word.
+// Writes the four numbers of a word on a line.
 fn put_word(rt: &HostRuntime, word: Word) -> io::Result<()> {
-    put_four(
-        rt,
-        word.start.0 as u64,
-        word.end.0 as u64,
-        word.white.0 as u64,
-        word.width.0 as u64,
-    )
+    let start = word.start.0;
+    let end = word.end.0;
+    let white = word.white.0;
+    let width = word.width.0;
+    println!(rt; "{start} {end} {white} {width}")
 }
 
 // Writes what a reader answers after the last word: no more, and where it stands.
 fn put_last(rt: &HostRuntime, turn: Turn) -> io::Result<()> {
-    let found = turn.found;
-    match found {
-        Found::Next(word) => put_word(rt, word),
-        Found::NoMore => {
+    match turn.found {
+        Some(word) => put_word(rt, word),
+        None => {
             let at = turn.next.0;
             println!(rt; "no more {at}")
         }
@@ -81,20 +86,16 @@ fn put_last(rt: &HostRuntime, turn: Turn) -> io::Result<()> {
 // Lists the words of a text as a reader answers them, one after the other.
 fn list_read(rt: &HostRuntime, text: &[u8]) -> io::Result<()> {
     let opening = reader::open_at(text);
-    let answer = opening.answer;
-    put_answer(rt, "reader", reader::answer_of(answer))?;
+    put_answer(rt, "reader", reader::answer_of(opening.answer))?;
     let mut at = opening.at;
     // a text has no more words than bytes
-    let mut left = text.len();
-    while 0 < left {
+    for _ in 0..text.len() {
         let turn = reader::next_of(text, at);
-        let found = turn.found;
-        let Found::Next(word) = found else {
+        let Some(word) = turn.found else {
             break;
         };
         put_word(rt, word)?;
         at = turn.next;
-        left -= 1;
     }
     put_last(rt, reader::next_of(text, at))
 }
@@ -106,84 +107,56 @@ fn is_listed(start: u32, end: u32, white: u32, width: u32) -> bool
     !((start == FRESH) & (end == FRESH) & (white == FRESH) & (width == FRESH))
 }
 
-fn wide(n: u32) -> u64 {
-    n as u64
-}
-
 // Writes the places of four lists in which anything was stored.
-fn put_lists(
-    rt: &HostRuntime,
-    starts: &[u32],
-    ends: &[u32],
-    whites: &[u32],
-    widths: &[u32],
-) -> io::Result<()> {
-    let n = words::shortest(starts.len(), ends.len(), whites.len(), widths.len());
-    let mut i = 0;
-    while i < n {
-        let start = starts[i];
-        let end = ends[i];
-        let white = whites[i];
-        let width = widths[i];
-        if is_listed(start, end, white, width) {
-            put_four(rt, wide(start), wide(end), wide(white), wide(width))?;
+fn put_lists(rt: &HostRuntime, lists: &WordLists<'_, u32>) -> io::Result<()> {
+    let fronts = lists.starts.iter().zip(lists.ends.iter());
+    let backs = lists.whites.iter().zip(lists.widths.iter());
+    for ((start, end), (white, width)) in fronts.zip(backs) {
+        if is_listed(*start, *end, *white, *width) {
+            let word = Word {
+                start: Offset(*start as usize),
+                end: Offset(*end as usize),
+                white: Columns(*white as usize),
+                width: Columns(*width as usize),
+            };
+            put_word(rt, word)?;
         }
-        i += 1;
     }
     Ok(())
 }
 
 // Calls one of the entries on four lists that are lent.
-fn call(
-    entry: Entry,
-    text: &[u8],
-    width: u32,
-    starts: &mut [u32],
-    ends: &mut [u32],
-    whites: &mut [u32],
-    widths: &mut [u32],
-) -> Answer
-    ensures { result ≡ answered entry text.now width (min (min (length starts.old) (length ends.old)) (min (length whites.old) (length widths.old))) }
+fn call(entry: Entry, text: &[u8], width: u32, lists: &mut WordLists<'_, u32>) -> Answer
+    ensures { result ≡ answered entry text.now width (room length lists.old) }
 {
-    match entry {
-        Entry::Words => words::answer_of(words::find_words(text, starts, ends, whites, widths)),
-        Entry::Apart => {
-            pieces::answer_of(pieces::break_apart(text, width, starts, ends, whites, widths))
-        }
-        Entry::Broken => {
-            pieces::answer_of(pieces::break_words(text, width, starts, ends, whites, widths))
-        }
-    }
+    let found = match entry {
+        Entry::Words => words::find_words(text, lists),
+        Entry::Apart => pieces::break_apart(text, width, lists),
+        Entry::Broken => pieces::break_words(text, width, lists),
+    };
+    limits::answer_of(found)
 }
 
-// Makes a list hold what no word has.
-fn make_fresh(list: &mut [u32]) {
-    let mut i = 0;
-    while i < list.len() {
-        list[i] = FRESH;
-        i += 1;
-    }
+// Makes lists hold what no word has.
+fn make_fresh(lists: &mut WordLists<'_, u32>) {
+    lists.starts.fill(FRESH);
+    lists.ends.fill(FRESH);
+    lists.whites.fill(FRESH);
+    lists.widths.fill(FRESH);
 }
 
 // Lists what one of the entries finds in a text: its answer, and the places that it fills.
 fn list_by(
     rt: &HostRuntime,
     entry: Entry,
-    name: &str,
     text: &[u8],
     width: u32,
-    starts: &mut [u32],
-    ends: &mut [u32],
-    whites: &mut [u32],
-    widths: &mut [u32],
+    lists: &mut WordLists<'_, u32>,
 ) -> io::Result<()> {
-    make_fresh(starts);
-    make_fresh(ends);
-    make_fresh(whites);
-    make_fresh(widths);
-    let answer = call(entry, text, width, starts, ends, whites, widths);
-    put_answer(rt, name, answer)?;
-    put_lists(rt, starts, ends, whites, widths)
+    make_fresh(lists);
+    let answer = call(entry, text, width, lists);
+    put_answer(rt, name_of(entry), answer)?;
+    put_lists(rt, lists)
 }
 
 // Lists the words of a text, by a reader and by the finder, and its pieces.
@@ -191,90 +164,33 @@ fn list_text(
     rt: &HostRuntime,
     text: &[u8],
     width: u32,
-    starts: &mut [u32],
-    ends: &mut [u32],
-    whites: &mut [u32],
-    widths: &mut [u32],
+    lists: &mut WordLists<'_, u32>,
 ) -> io::Result<()> {
     list_read(rt, text)?;
-    list_by(
-        rt,
-        Entry::Words,
-        "find_words",
-        text,
-        width,
-        starts,
-        ends,
-        whites,
-        widths,
-    )?;
-    list_by(
-        rt,
-        Entry::Apart,
-        "break_apart",
-        text,
-        width,
-        starts,
-        ends,
-        whites,
-        widths,
-    )?;
-    list_by(
-        rt,
-        Entry::Broken,
-        "break_words",
-        text,
-        width,
-        starts,
-        ends,
-        whites,
-        widths,
-    )
-}
-
-// Lists each text of the input.
-fn list_all(
-    rt: &HostRuntime,
-    input: &[u8],
-    width: u32,
-    starts: &mut [u32],
-    ends: &mut [u32],
-    whites: &mut [u32],
-    widths: &mut [u32],
-) -> io::Result<()>
-    requires { length input.now ≤ 65536 }
-{
-    let mut from = 0;
-    while from <= input.len() {
-        let end = streams::end_of_part(input, from, BETWEEN);
-        list_text(rt, &input[from..end], width, starts, ends, whites, widths)?;
-        from = end + 1;
+    for entry in ENTRIES {
+        list_by(rt, entry, text, width, lists)?;
     }
     Ok(())
 }
 
 // Lists each text of the input, in lists of so many places.
-fn list_with(rt: &HostRuntime, input: &[u8], width: u32, places: usize) -> io::Result<()>
-    requires input_len_bound { length input.now ≤ 65536 }
-    requires places_bound { places ≤ 60000 }
+fn list_all(rt: &HostRuntime, input: &[u8], width: u32, places: usize) -> io::Result<()>
+    requires { places ≤ 60000 }
 {
-    let mut a = [FRESH; PLACES];
-    let mut b = [FRESH; PLACES];
-    let mut c = [FRESH; PLACES];
-    let mut d = [FRESH; PLACES];
-    let starts: &mut [u32] = &mut a;
-    let ends: &mut [u32] = &mut b;
-    let whites: &mut [u32] = &mut c;
-    let widths: &mut [u32] = &mut d;
-    list_all(
-        rt,
-        input,
-        width,
-        &mut starts[..places],
-        &mut ends[..places],
-        &mut whites[..places],
-        &mut widths[..places],
-    )
+    let mut starts = [FRESH; PLACES];
+    let mut ends = [FRESH; PLACES];
+    let mut whites = [FRESH; PLACES];
+    let mut widths = [FRESH; PLACES];
+    let mut lists = WordLists {
+        starts: &mut starts[..places],
+        ends: &mut ends[..places],
+        whites: &mut whites[..places],
+        widths: &mut widths[..places],
+    };
+    for text in input.split(|b| *b == BETWEEN) {
+        list_text(rt, text, width, &mut lists)?;
+    }
+    Ok(())
 }
 
 // The number that is an argument of the program; another where there is none.
@@ -292,17 +208,10 @@ fn argument(rt: &HostRuntime, k: usize, absent: usize) -> usize
     decimal::number_of(&digits[..n])
 }
 
-// A number of places that the lists have.
-fn at_most(places: usize) -> usize
-    ensures { result ≡ min places 60000 }
-{
-    if places < PLACES { places } else { PLACES }
-}
-
 fn main(rt: HostRuntime) -> io::Result<()> {
     let width = argument(&rt, 1, WIDTH);
-    let places = at_most(argument(&rt, 2, PLACES));
+    let places = argument(&rt, 2, PLACES).min(PLACES);
     let mut space = [0u8; INPUT_MOST];
     let n = streams::read_full(&mut rt.stdin(), &mut space);
-    list_with(&rt, &space[..n], width as u32, places)
+    list_all(&rt, &space[..n], width as u32, places)
 }

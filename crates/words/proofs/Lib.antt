@@ -1,4 +1,3 @@
-pub mod Cases
 pub mod Stepping
 pub mod Laws
 pub mod Counting

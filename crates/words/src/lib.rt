@@ -5,18 +5,17 @@
 // Nothing here breaks a word or lays words out.
 #![tactic(auto)]
 
-ghost use Rattle.std.specs.Prelude.{◌≡◌, ◌+◌, ◌≤◌, ◌<◌, min, length, drop, set, map};
+ghost use Rattle.std.specs.Prelude.{◌≡◌, ◌+◌, ◌≤◌, ◌<◌, [], ◌∷◌, length, drop, map};
 ghost use Rattle.std.proofs.lemmas.List.Edits.{sets};
 ghost use Rattle.units.specs.Limits.{text_most};
-ghost use Rattle.units.specs.Answers.{success, refusal};
 ghost use Rattle.logic.specs.Count.{count};
 ghost use Rattle.chars.specs.Utf8.{Whole};
 ghost use Rattle.words.specs.Words.{space, letter, after_word, words, step_at};
-ghost use Rattle.words.specs.Lists.{start_of, end_of, white_of, width_of_word, Small, PutAt, Room, listed_of, Finds, answer_of, fit_of};
+ghost use Rattle.words.specs.Lists.{start_of, end_of, white_of, width_of_word, Small, PutAt, Same, room, listed_of, Finds, fit_of};
 
-use chars::Checked;
-use measure::Passed;
-use units::{Answer, Columns, Offset, TEXT_MOST};
+use limits::TextRefusal;
+use units::{Columns, Offset, TEXT_MOST};
+use wire::Cell;
 
 const SPACE: u8 = 0x20;
 
@@ -39,64 +38,28 @@ pub enum Step {
     Fault(Offset),
 }
 
-// How many words were listed; or why none were: too long, with the length; not UTF-8, with the first
-// fault; too little room, with the places needed.
-#[derive(Clone, Copy)]
-pub enum Listed {
-    Words(usize),
-    TooLong(Offset),
-    NotUtf8(Offset),
-    NoRoom(usize),
-}
-
-// Whether there is room, or how many places are needed.
-#[derive(Clone, Copy)]
-pub enum Fit {
-    Enough,
-    Needs(usize),
-}
-
 pub fn is_space(b: u8) -> bool
     ensures { result ≡ space b }
 {
     b == SPACE
 }
 
-fn is_letter(b: u8) -> bool
-    ensures { result ≡ letter b }
-{
-    !(b == SPACE)
-}
-
 // The end of the run of spaces that starts at `from`.
 pub fn space_end(text: &[u8], from: usize) -> usize
     ensures { result ≡ from + count space (drop from text.now) }
 {
-    let mut at = from;
-    while at < text.len() {
-        if !is_space(text[at]) {
-            return at;
-        }
-        at += 1;
-    }
-    at
+    runs::run_end(text, from, is_space)
 }
 
 // The end of the run of bytes that are no space.
 fn letter_end(text: &[u8], from: usize) -> usize
     ensures { result ≡ from + count letter (drop from text.now) }
 {
-    let mut at = from;
-    while at < text.len() {
-        if !is_letter(text[at]) {
-            return at;
-        }
-        at += 1;
-    }
-    at
+    runs::run_end(text, from, |b| !is_space(b))
 }
 
 // The word that starts at an offset.
+#[tactic(auto, using(crate::proofs::Stepping::stepping))]
 pub fn next_word(text: &[u8], at: Offset) -> Step
     ensures { result ≡ step_at text.now at.0 }
 {
@@ -104,7 +67,7 @@ pub fn next_word(text: &[u8], at: Offset) -> Step
         return Step::End;
     }
     match measure::columns_until(text, at, SPACE_CHAR) {
-        Passed::To(width, end) => {
+        Ok((width, end)) => {
             let after = space_end(text, end.0);
             let white = after - end.0;
             Step::Found(
@@ -117,11 +80,12 @@ pub fn next_word(text: &[u8], at: Offset) -> Step
                 Offset(after),
             )
         }
-        Passed::Fault(fault) => Step::Fault(fault),
+        Err(fault) => Step::Fault(fault),
     }
 }
 
 // How many words a text has, by its bytes alone.
+#[tactic(auto, using(crate::proofs::Counting::counting_words))]
 pub fn count_words(text: &[u8]) -> usize
     ensures { result ≡ length (words text.now) }
 {
@@ -137,121 +101,92 @@ pub fn count_words(text: &[u8]) -> usize
 
 // Whether `room` places are enough for the words of a text. They are counted only where it could lack
 // some: a text has at most half as many words as bytes, and one more.
-pub fn room_for_words(text: &[u8], room: usize) -> Fit
+#[tactic(auto, using(crate::proofs::Finding::fitting))]
+pub fn room_for_words(text: &[u8], room: usize) -> Result<(), usize>
     ensures { result ≡ fit_of (length (words text.now)) room }
 {
     if text.len() / 2 < room {
-        return Fit::Enough;
+        return Ok(());
     }
     let n = count_words(text);
     if room < n {
-        return Fit::Needs(n);
+        return Err(n);
     }
-    Fit::Enough
+    Ok(())
 }
 
-// Stores a word at place k of the four lists.
-pub fn put_word(
-    starts: &mut [u32],
-    ends: &mut [u32],
-    whites: &mut [u32],
-    widths: &mut [u32],
-    k: usize,
-    word: Word,
-)
-    requires small { Small word }
-    requires put_at { PutAt 1 k starts.old ends.old whites.old widths.old }
-    ensures starts_after { starts.new ≡ set starts.old k (start_of word) }
-    ensures ends_after { ends.new ≡ set ends.old k (end_of word) }
-    ensures whites_after { whites.new ≡ set whites.old k (white_of word) }
-    ensures widths_after { widths.new ≡ set widths.old k (width_of_word word) }
-{
-    starts[k] = word.start.0 as u32;
-    ends[k] = word.end.0 as u32;
-    whites[k] = word.white.0 as u32;
-    widths[k] = word.width.0 as u32;
+// Four lists that are lent for words: where each starts, where its content ends, how many spaces follow, and
+// the columns of its content, one place a word. They are lists of 32-bit numbers, or of bytes.
+#[derive(Drop)]
+pub struct WordLists<'a, C> {
+    pub starts: &'a mut [C],
+    pub ends: &'a mut [C],
+    pub whites: &'a mut [C],
+    pub widths: &'a mut [C],
+}
+
+impl<'a, C: Cell<u32>> WordLists<'a, C> {
+    // How many words there is room for: the places of the shortest list.
+    pub fn room(&self) -> usize
+        ensures { result ≡ room C.places self.now }
+    {
+        let front = C::count(self.starts).min(C::count(self.ends));
+        let back = C::count(self.whites).min(C::count(self.widths));
+        front.min(back)
+    }
+
+    // Stores a word from an element on, the same in each list.
+    pub fn put(&mut self, place: usize, word: Word)
+        requires small { Small word }
+        requires put_at { PutAt C.SIZE place self.old }
+        ensures starts_after { self.new.starts.now ≡ sets self.old.starts.now place (C.stored (start_of word ∷ [])) }
+        ensures ends_after { self.new.ends.now ≡ sets self.old.ends.now place (C.stored (end_of word ∷ [])) }
+        ensures whites_after { self.new.whites.now ≡ sets self.old.whites.now place (C.stored (white_of word ∷ [])) }
+        ensures widths_after { self.new.widths.now ≡ sets self.old.widths.now place (C.stored (width_of_word word ∷ [])) }
+        ensures same { Same self.old self.new }
+    {
+        C::store(self.starts, place, word.start.0 as u32);
+        C::store(self.ends, place, word.end.0 as u32);
+        C::store(self.whites, place, word.white.0 as u32);
+        C::store(self.widths, place, word.width.0 as u32);
+    }
 }
 
 // Lists the words of a text that is UTF-8, in lists that have room for them, and counts them.
-fn write_words(
-    text: &[u8],
-    starts: &mut [u32],
-    ends: &mut [u32],
-    whites: &mut [u32],
-    widths: &mut [u32],
-) -> usize
+fn write_words<C: Cell<u32>>(text: &[u8], lists: &mut WordLists<'_, C>) -> usize
     requires text_len_bound { (length text.now ≤ text_most) × Whole text.now }
-    requires room { Room (length (words text.now)) starts.old ends.old whites.old widths.old }
+    requires room { length (words text.now) ≤ room C.places lists.old }
     ensures value { result ≡ length (words text.now) }
-    ensures starts_after { starts.new ≡ sets starts.old 0 (map start_of (words text.now)) }
-    ensures ends_after { ends.new ≡ sets ends.old 0 (map end_of (words text.now)) }
-    ensures whites_after { whites.new ≡ sets whites.old 0 (map white_of (words text.now)) }
-    ensures widths_after { widths.new ≡ sets widths.old 0 (map width_of_word (words text.now)) }
+    ensures starts_after { lists.new.starts.now ≡ sets lists.old.starts.now 0 (C.stored (map start_of (words text.now))) }
+    ensures ends_after { lists.new.ends.now ≡ sets lists.old.ends.now 0 (C.stored (map end_of (words text.now))) }
+    ensures whites_after { lists.new.whites.now ≡ sets lists.old.whites.now 0 (C.stored (map white_of (words text.now))) }
+    ensures widths_after { lists.new.widths.now ≡ sets lists.old.widths.now 0 (C.stored (map width_of_word (words text.now))) }
+    ensures same { Same lists.old lists.new }
 {
     let mut at = Offset(0);
     let mut k = 0;
-    while at.0 < text.len() {
-        let Step::Found(word, after) = next_word(text, at) else {
-            return k;
-        };
-        let here = k;
+    while let Step::Found(word, after) = next_word(text, at) {
+        lists.put(C::SIZE * k, word);
         k += 1;
-        put_word(starts, ends, whites, widths, here, word);
         at = after;
     }
     k
 }
 
-fn shorter(a: usize, b: usize) -> usize
-    ensures { result ≡ min a b }
-{
-    if a <= b { a } else { b }
-}
-
-// The shortest of four lengths.
-pub fn shortest(a: usize, b: usize, c: usize, d: usize) -> usize
-    ensures { result ≡ min (min a b) (min c d) }
-{
-    shorter(shorter(a, b), shorter(c, d))
-}
-
 // Lists the words of a text: start, content end, whitespace length and width, one place a word.
-pub fn find_words(
+#[tactic(auto, using(crate::proofs::Finding::finding))]
+pub fn find_words<C: Cell<u32>>(
     text: &[u8],
-    starts: &mut [u32],
-    ends: &mut [u32],
-    whites: &mut [u32],
-    widths: &mut [u32],
-) -> Listed
-    ensures value { result ≡ listed_of text.now (min (min (length starts.old) (length ends.old)) (min (length whites.old) (length widths.old))) }
-    ensures starts_after { starts.new ≡ Finds result (map start_of (words text.now)) starts.old }
-    ensures ends_after { ends.new ≡ Finds result (map end_of (words text.now)) ends.old }
-    ensures whites_after { whites.new ≡ Finds result (map white_of (words text.now)) whites.old }
-    ensures widths_after { widths.new ≡ Finds result (map width_of_word (words text.now)) widths.old }
+    lists: &mut WordLists<'_, C>,
+) -> Result<usize, TextRefusal>
+    ensures value { result ≡ listed_of text.now (room C.places lists.old) }
+    ensures starts_after { lists.new.starts.now ≡ Finds result (C.stored (map start_of (words text.now))) lists.old.starts.now }
+    ensures ends_after { lists.new.ends.now ≡ Finds result (C.stored (map end_of (words text.now))) lists.old.ends.now }
+    ensures whites_after { lists.new.whites.now ≡ Finds result (C.stored (map white_of (words text.now))) lists.old.whites.now }
+    ensures widths_after { lists.new.widths.now ≡ Finds result (C.stored (map width_of_word (words text.now))) lists.old.widths.now }
+    ensures same { Same lists.old lists.new }
 {
-    if TEXT_MOST < text.len() {
-        return Listed::TooLong(Offset(text.len()));
-    }
-    match chars::first_fault(text) {
-        Checked::Whole => {
-            let room = shortest(starts.len(), ends.len(), whites.len(), widths.len());
-            match room_for_words(text, room) {
-                Fit::Enough => Listed::Words(write_words(text, starts, ends, whites, widths)),
-                Fit::Needs(n) => Listed::NoRoom(n),
-            }
-        }
-        Checked::Fault(at) => Listed::NotUtf8(at),
-    }
-}
-
-// The numbers of document 01 for what the finder answers.
-pub fn answer_of(l: Listed) -> Answer
-    ensures { result ≡ answer_of l }
-{
-    match l {
-        Listed::Words(n) => units::done(n),
-        Listed::TooLong(length) => units::refused(1, length.0),
-        Listed::NotUtf8(at) => units::refused(2, at.0),
-        Listed::NoRoom(needed) => units::refused(7, needed),
-    }
+    limits::admit(text, TEXT_MOST)?;
+    room_for_words(text, lists.room()).map_err(TextRefusal::NoRoom)?;
+    Ok(write_words(text, lists))
 }

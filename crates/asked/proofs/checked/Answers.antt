@@ -1,19 +1,12 @@
--- `checked`: one law of `checks` for each way through it.
-use borrow.Author.Rules.{rules}
-use Rattle.asked.proofs.Asking.{checks}
+-- `checked`: one law of `checks` for each number of words.
+use Rattle.asked.proofs.Asking.{check_two, check_three, check_more}
 use Rattle.asked.proofs.checked.Goals as goal
 
-pub returns-then-block-first : goal.returns-then-block-first
-returns-then-block-first c = search (checks, rules)
+pub returns-then-is_empty-3 : goal.returns-then-is_empty-3
+returns-then-is_empty-3 c = check_two _ _ c.is_empty.ensures c.if-is_empty.false c.rest-second.ensures c.is_empty-2.ensures c.if-is_empty-2.false c.rest-third.ensures c.is_empty-3.ensures c.if-is_empty-3.true c.pair.ensures
 
-pub returns-then-block-second : goal.returns-then-block-second
-returns-then-block-second c = search (checks, rules)
-
-pub returns-then-block-third : goal.returns-then-block-third
-returns-then-block-third c = search (checks, rules)
-
-pub returns-then-block-fourth : goal.returns-then-block-fourth
-returns-then-block-fourth c = search (checks, rules)
+pub returns-then-is_empty-4 : goal.returns-then-is_empty-4
+returns-then-is_empty-4 c = check_three _ _ c.is_empty.ensures c.if-is_empty.false c.rest-second.ensures c.is_empty-2.ensures c.if-is_empty-2.false c.rest-third.ensures c.is_empty-3.ensures c.if-is_empty-3.false c.rest-fourth.ensures c.is_empty-4.ensures c.if-is_empty-4.true c.triple.ensures
 
 pub returns : goal.returns
-returns c = search (checks, rules)
+returns c = check_more _ _ c.is_empty.ensures c.if-is_empty.false c.rest-second.ensures c.is_empty-2.ensures c.if-is_empty-2.false c.rest-third.ensures c.is_empty-3.ensures c.if-is_empty-3.false c.rest-fourth.ensures c.is_empty-4.ensures c.if-is_empty-4.false c.misuse.ensures

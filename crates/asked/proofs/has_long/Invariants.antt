@@ -1,12 +1,7 @@
--- `has_long`: one law of `running` for each way into, round and out of the loop. The measure is what is left of the block.
-use Prim.Native.Nat.{◌-◌}
-use lib.ListN.{length}
+-- `has_long`: what is passed of a word so far, and what is left of the block.
 use Rattle.asked.specs.Plan.{argument_most}
-use Rattle.asked.proofs.Words.{Running}
+use Rattle.asked.proofs.Block.{Running}
 use Rattle.asked.proofs.has_long.Given as goal
 
-abbrev pub invariant-loop-at : goal.invariant-loop-at
-invariant-loop-at l = Running argument_most l.block l.run l.at
-
-abbrev pub decreases-loop-at : goal.decreases-loop-at
-decreases-loop-at l = length l.block - l.at
+abbrev pub invariant-loop-b : goal.invariant-loop-b
+invariant-loop-b l = Running argument_most l.block l.run l.b-index

@@ -1,13 +1,6 @@
--- `plan_of`: one law of `plans` for each way through it.
-use borrow.Author.Rules.{rules}
-use Rattle.asked.proofs.Asking.{plans}
+-- `plan_of`: a first word that is no command.
+use Rattle.asked.proofs.Asking.{plan_other}
 use Rattle.asked.proofs.plan_of.Goals as goal
 
-pub returns-then-has_long : goal.returns-then-has_long
-returns-then-has_long c = search (plans, rules)
-
-pub returns-then-block-eq0 : goal.returns-then-block-eq0
-returns-then-block-eq0 c = search (plans, rules)
-
-pub returns : goal.returns
-returns c = search (plans, rules)
+pub returns-in-Err : goal.returns-in-Err
+returns-in-Err c = plan_other c.args.block.now c.has_long.ensures c.if-has_long.false c.is_empty.ensures c.if-is_empty.false c.bytes.ensures c.try_from.ensures c.in-Err.is c.misuse.ensures

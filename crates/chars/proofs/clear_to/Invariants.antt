@@ -1,10 +1,6 @@
 -- `clear_to`: no window before the place is wrong.
-use Prim.Native.Nat.{◌-◌}
 use Rattle.chars.specs.Windows.{Clear}
 use Rattle.chars.proofs.clear_to.Given as goal
 
 abbrev pub invariant-loop-at : goal.invariant-loop-at
 invariant-loop-at l = Clear l.text l.at
-
-abbrev pub decreases-loop-at : goal.decreases-loop-at
-decreases-loop-at l = l.last - l.at

@@ -6,20 +6,8 @@ use Rattle.fill.proofs.fill_line.Goals as goal
 pub loop-at-init : goal.loop-at-init
 loop-at-init c = search (filling, rules)
 
-pub meet-met-requires : goal.meet-met-requires
-meet-met-requires c = search (filling, rules)
-
 pub starts_line-requires : goal.starts_line-requires
 starts_line-requires c = search (filling, rules)
-
-pub overflow_sub-line : goal.overflow_sub-line
-overflow_sub-line c = search (filling, rules)
-
-pub bounds-line-start : goal.bounds-line-start
-bounds-line-start c = search (filling, rules)
-
-pub overflow_add-changed : goal.overflow_add-changed
-overflow_add-changed c = search (filling, rules)
 
 pub loop-at-smaller-then-starts_line : goal.loop-at-smaller-then-starts_line
 loop-at-smaller-then-starts_line c = search (filling, rules)
@@ -36,8 +24,8 @@ loop-at-smaller c = search (filling, rules)
 pub loop-at-preserved : goal.loop-at-preserved
 loop-at-preserved c = search (filling, rules)
 
-pub shape_of-line : goal.shape_of-line
-shape_of-line c = search (filling, rules)
+pub returns-clause-value : goal.returns-clause-value
+returns-clause-value c = search (filling, rules)
 
-pub returns : goal.returns
-returns c = search (filling, rules)
+pub returns-clause-line_after : goal.returns-clause-line_after
+returns-clause-line_after c = search (filling, rules)

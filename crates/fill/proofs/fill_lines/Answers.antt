@@ -6,12 +6,6 @@ use Rattle.fill.proofs.fill_lines.Goals as goal
 pub loop-from-init : goal.loop-from-init
 loop-from-init c = search (going, rules)
 
-pub line_end-end-requires : goal.line_end-end-requires
-line_end-end-requires c = search (going, rules)
-
-pub body_end-body-requires : goal.body_end-body-requires
-body_end-body-requires c = search (going, rules)
-
 pub slice_bounds-fill_line-count : goal.slice_bounds-fill_line-count
 slice_bounds-fill_line-count c = search (going, rules)
 
@@ -36,8 +30,8 @@ loop-from-smaller c = search (going, rules)
 pub loop-from-preserved : goal.loop-from-preserved
 loop-from-preserved c = search (going, rules)
 
-pub shape_of-text : goal.shape_of-text
-shape_of-text c = search (going, rules)
+pub returns-clause-value : goal.returns-clause-value
+returns-clause-value c = search (going, rules)
 
-pub returns : goal.returns
-returns c = search (going, rules)
+pub returns-clause-text_after : goal.returns-clause-text_after
+returns-clause-text_after c = search (going, rules)

@@ -46,8 +46,5 @@ loop-at-smaller c = search (judging, rules)
 pub loop-at-preserved : goal.loop-at-preserved
 loop-at-preserved c = search (judging, rules)
 
-pub returns-then-fitted-given : goal.returns-then-fitted-given
-returns-then-fitted-given c = search (judging, rules)
-
 pub returns : goal.returns
 returns c = search (judging, rules)

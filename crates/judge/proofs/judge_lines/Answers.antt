@@ -24,19 +24,10 @@ slice_bounds-judge_line-start c = search (reading, rules)
 pub slice_bounds-judge_line-end : goal.slice_bounds-judge_line-end
 slice_bounds-judge_line-end c = search (reading, rules)
 
-pub judge_line-lined-requires : goal.judge_line-lined-requires
-judge_line-lined-requires c =
+pub judge_line-requires : goal.judge_line-requires
+judge_line-requires c =
     let found = c in
     reading_lies found.loop-at.invariant found.loop-at-test.true found.line_end-end.ensures c.body_end-body.ensures
-
-pub enum_known-lined : goal.enum_known-lined
-enum_known-lined c = search (reading, rules)
-
-pub returns-in-Wide : goal.returns-in-Wide
-returns-in-Wide c = search (reading, rules)
-
-pub many_next-many-requires : goal.many_next-many-requires
-many_next-many-requires c = search (reading, rules)
 
 pub loop-at-smaller : goal.loop-at-smaller
 loop-at-smaller c = search (reading, rules)
@@ -44,14 +35,11 @@ loop-at-smaller c = search (reading, rules)
 pub loop-at-preserved : goal.loop-at-preserved
 loop-at-preserved c = search (reading, rules)
 
-pub enum_known-many : goal.enum_known-many
-enum_known-many c = search (reading, rules)
+pub returns-in-Err : goal.returns-in-Err
+returns-in-Err c = search (reading, rules)
 
-pub enum_told-1 : goal.enum_told-1
-enum_told-1 c = search (reading, rules)
+pub returns-in-Some : goal.returns-in-Some
+returns-in-Some c = search (reading, rules)
 
-pub returns-in-At : goal.returns-in-At
-returns-in-At c = search (reading, rules)
-
-pub returns-in-Nowhere : goal.returns-in-Nowhere
-returns-in-Nowhere c = search (reading, rules)
+pub returns-in-None : goal.returns-in-None
+returns-in-None c = search (reading, rules)

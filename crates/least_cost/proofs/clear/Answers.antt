@@ -1,15 +1,9 @@
--- `clear`: the places before k are zero, and the others are as they were (`Cleared`).
-use borrow.Author.Rules.{rules}
-use Rattle.least_cost.proofs.Writing.{cleared_end, clearing}
+-- `clear`: what was filled stands before the rest.
+use Rattle.least_cost.proofs.Writing.{filled}
 use Rattle.least_cost.proofs.clear.Goals as goal
 
-pub loop-k-init : goal.loop-k-init
-loop-k-init c = search (clearing, rules)
-
-pub loop-k-preserved : goal.loop-k-preserved
-loop-k-preserved c = search (clearing, rules)
-
 pub returns : goal.returns
-returns c =
-    let inv = c.loop-k.invariant in
-    (cleared_end c.args.n inv.1 (search rules), cleared_end c.args.n inv.2 (search rules))
+returns c = let a = c.args in (
+  filled a.n a.costs.now c.requires.0 (c.fill.ensures.after (λ y e. e)),
+  filled a.n a.starts.now c.requires.1 (c.fill-2.ensures.after (λ y e. e)),
+)

@@ -2,8 +2,5 @@
 use Rattle.least_cost.proofs.Writing.{Writing}
 use Rattle.least_cost.proofs.write_ends.Given as goal
 
-abbrev pub invariant-loop-end : goal.invariant-loop-end
-invariant-loop-end l = Writing l.starts l.n l.initial.ends l.ends l.line l.end
-
-abbrev pub decreases-loop-end : goal.decreases-loop-end
-decreases-loop-end l = l.end
+abbrev pub invariant-loop-line : goal.invariant-loop-line
+invariant-loop-line l = Writing l.starts l.n l.initial.ends l.ends l.line l.end

@@ -6,35 +6,17 @@ use Rattle.measure.proofs.skip_ansi_escape_sequence.Goals as goal
 pub loop-at-init : goal.loop-at-init
 loop-at-init c = search (skipping, rules)
 
-pub read_char-requires : goal.read_char-requires
-read_char-requires c = search (skipping, rules)
-
-pub enum_known-c : goal.enum_known-c
-enum_known-c c = search (skipping, rules)
-
-pub enum_told-1 : goal.enum_told-1
-enum_told-1 c = search (skipping, rules)
-
-pub returns-in_default : goal.returns-in_default
-returns-in_default c = search (skipping, rules)
-
 pub returns-then-c-stop : goal.returns-then-c-stop
 returns-then-c-stop c = search (skipping, rules)
-
-pub next_mode-mode-requires : goal.next_mode-mode-requires
-next_mode-mode-requires c = search (skipping, rules)
-
-pub is_text-requires : goal.is_text-requires
-is_text-requires c = search (skipping, rules)
 
 pub returns-then-is_text : goal.returns-then-is_text
 returns-then-is_text c = search (skipping, rules)
 
-pub loop-at-smaller : goal.loop-at-smaller
-loop-at-smaller c = search (skipping, rules)
-
 pub loop-at-preserved : goal.loop-at-preserved
 loop-at-preserved c = search (skipping, rules)
+
+pub returns-in_default : goal.returns-in_default
+returns-in_default c = search (skipping, rules)
 
 pub returns : goal.returns
 returns c = search (skipping, rules)

@@ -1,9 +1,10 @@
--- `content_end`: by one law of `trimming` for each way round and out of its loop.
-use Rattle.pieces.proofs.Trimming.{Trimming}
+-- `content_end`: what is cut off at the end are spaces.
+use Rattle.std.proofs.Common.{◌≡◌, length}
+use Rattle.pieces.specs.Pieces.{trimmed}
 use Rattle.pieces.proofs.content_end.Given as goal
 
-abbrev pub invariant-loop-end : goal.invariant-loop-end
-invariant-loop-end l = Trimming l.text l.end
+abbrev pub invariant-loop-content : goal.invariant-loop-content
+invariant-loop-content l = trimmed l.content ≡ trimmed l.text
 
-abbrev pub decreases-loop-end : goal.decreases-loop-end
-decreases-loop-end l = l.end
+abbrev pub decreases-loop-content : goal.decreases-loop-content
+decreases-loop-content l = length l.content

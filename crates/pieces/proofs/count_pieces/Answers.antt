@@ -12,9 +12,6 @@ next_piece-found-requires c = search (counting, rules)
 pub overflow_add-after : goal.overflow_add-after
 overflow_add-after c = search (counting, rules)
 
-pub overflow_add-n : goal.overflow_add-n
-overflow_add-n c = search (counting, rules)
-
 pub loop-at-smaller : goal.loop-at-smaller
 loop-at-smaller c = search (counting, rules)
 

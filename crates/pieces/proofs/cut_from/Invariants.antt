@@ -4,8 +4,8 @@ use lib.ListN.{length}
 use Rattle.pieces.proofs.Cutting.{Cutting}
 use Rattle.pieces.proofs.cut_from.Given as goal
 
-abbrev pub invariant-loop-at : goal.invariant-loop-at
-invariant-loop-at l = Cutting l.stop l.width.0 l.text l.initial.at.0 l.at.0 l.cols.0 l.mode
+abbrev pub invariant-loop-cut : goal.invariant-loop-cut
+invariant-loop-cut l = Cutting l.stop l.width.0 l.text l.initial.cut.end.0 l.cut.end.0 l.cut.width.0 l.mode
 
-abbrev pub decreases-loop-at : goal.decreases-loop-at
-decreases-loop-at l = length l.text - l.at.0
+abbrev pub decreases-loop-cut : goal.decreases-loop-cut
+decreases-loop-cut l = length l.text - l.cut.end.0

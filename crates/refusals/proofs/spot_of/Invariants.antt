@@ -1,10 +1,6 @@
--- `spot_of`: one law of `finding` for each way into, round and out of the loop. The measure is what is left before the place.
-use Prim.Native.Nat.{◌-◌}
+-- `spot_of`: what is counted of the bytes that are passed.
 use Rattle.refusals.proofs.Finding.{Finding}
 use Rattle.refusals.proofs.spot_of.Given as goal
 
-abbrev pub invariant-loop-i : goal.invariant-loop-i
-invariant-loop-i l = Finding l.text l.place l.end l.i l.line l.column
-
-abbrev pub decreases-loop-i : goal.decreases-loop-i
-decreases-loop-i l = l.end - l.i
+abbrev pub invariant-loop-b : goal.invariant-loop-b
+invariant-loop-b l = Finding l.b-items l.b-index l.line l.column

@@ -1,31 +1,18 @@
--- `lists_agree`: one law of `listing` for each kind.
-use Rattle.replay.proofs.Lists.{listing}
-use borrow.Author.Rules.{rules}
+-- `lists_agree`: the lists have room for what was listed, and it stands at their starts.
+use Rattle.std.proofs.Common.{rules}
+use Rattle.replay.proofs.Lists.{lists_room, lists_found}
 use Rattle.replay.proofs.lists_agree.Goals as goal
 
-pub returns-in-Words : goal.returns-in-Words
-returns-in-Words c = search (listing, rules)
+pub holds_four-requires : goal.holds_four-requires
+holds_four-requires c =
+    let x = c.args in
+    let l = x.lists.now in
+    let f = c.list_by.ensures in
+    lists_room x.listing x.width x.text.now l.starts.now l.ends.now l.whites.now l.widths.now f.value (search rules) f.starts_after f.ends_after f.whites_after f.widths_after
 
-pub returns-in-Apart : goal.returns-in-Apart
-returns-in-Apart c = search (listing, rules)
-
-pub returns-in-Broken : goal.returns-in-Broken
-returns-in-Broken c = search (listing, rules)
-
-pub returns-in-Measure : goal.returns-in-Measure
-returns-in-Measure c = search (listing, rules)
-
-pub returns-in-FirstFit : goal.returns-in-FirstFit
-returns-in-FirstFit c = search (listing, rules)
-
-pub returns-in-LeastCost : goal.returns-in-LeastCost
-returns-in-LeastCost c = search (listing, rules)
-
-pub returns-in-Fill : goal.returns-in-Fill
-returns-in-Fill c = search (listing, rules)
-
-pub returns-in-Turn : goal.returns-in-Turn
-returns-in-Turn c = search (listing, rules)
-
-pub returns-in-Unknown : goal.returns-in-Unknown
-returns-in-Unknown c = search (listing, rules)
+pub returns-in-Ok : goal.returns-in-Ok
+returns-in-Ok c =
+    let x = c.args in
+    let l = x.lists.now in
+    let f = c.list_by.ensures in
+    lists_found x.listing x.width x.text.now l.starts.now l.ends.now l.whites.now l.widths.now f.value {n = c.in-Ok.n} (search rules) f.starts_after f.ends_after f.whites_after f.widths_after x.stored.now c.holds_four.ensures

@@ -1,12 +1,10 @@
 -- `say_dropped`: nothing, or what is dropped after its name.
-use mathlib.Core.Path.{refl}
-use borrow.Author.Tests.{not-true}
-use Rattle.shown.proofs.Rows.{dropped_none, dropping}
+use Rattle.shown.proofs.Rows.{dropped_none, dropped_said}
 use borrow.Author.Rules.{rules}
 use Rattle.shown.proofs.say_dropped.Goals as goal
 
-pub returns-then-not-wide : goal.returns-then-not-wide
-returns-then-not-wide c = dropped_none _ _ (search (not-true, rules)) (search rules) refl refl
+pub returns-in-Some : goal.returns-in-Some
+returns-in-Some c = dropped_said c.args.line.now c.args.dropped c.in-Some.is c.say.ensures c.say_shown.ensures
 
-pub returns : goal.returns
-returns c = search (dropping, rules)
+pub returns-in_default : goal.returns-in_default
+returns-in_default c = dropped_none c.args.line.now c.args.dropped c.in_default.is (search rules)

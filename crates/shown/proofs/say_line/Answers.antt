@@ -3,8 +3,5 @@ use Rattle.shown.proofs.Rows.{drawing}
 use borrow.Author.Rules.{rules}
 use Rattle.shown.proofs.say_line.Goals as goal
 
-pub say_row-len-requires : goal.say_row-len-requires
-say_row-len-requires c = search (drawing, rules)
-
-pub returns : goal.returns
-returns c = search (drawing, rules)
+pub say_row-requires : goal.say_row-requires
+say_row-requires c = search (drawing, rules)

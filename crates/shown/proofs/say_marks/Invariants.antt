@@ -1,10 +1,6 @@
--- `say_marks`: by the laws of `Ruling`, one for each way into, round and out of the loop.
-use Prim.Native.Nat.{◌-◌}
+-- `say_marks`: what is said of the columns that are passed.
 use Rattle.shown.proofs.Ruling.{Ruling}
 use Rattle.shown.proofs.say_marks.Given as goal
 
-abbrev pub invariant-loop-column : goal.invariant-loop-column
-invariant-loop-column l = Ruling l.top l.width l.initial.out l.at l.column l.to l.out
-
-abbrev pub decreases-loop-column : goal.decreases-loop-column
-decreases-loop-column l = l.width - l.column
+abbrev pub invariant-loop-passed : goal.invariant-loop-passed
+invariant-loop-passed g l = Ruling (goal.F-post g l.mark) l.width l.initial.out l.passed l.out

@@ -12,5 +12,5 @@ returns-then-b-eq-DELETE c = search (one, rules)
 pub returns-then-is_c1 : goal.returns-then-is_c1
 returns-then-is_c1 c = search (one, rules)
 
-pub returns : goal.returns
-returns c = search (one, rules)
+pub returns-else-is_c1 : goal.returns-else-is_c1
+returns-else-is_c1 c = search (one, rules)

@@ -1,13 +1,11 @@
 -- `write_words`: at each word's start the words listed and those to come are all of them, by the laws of `Listing`; the step always finds one.
 use Prim.Native.Nat.{◌-◌}
 use lib.ListN.{length}
-use Rattle.logic.specs.Flat.{alone}
 use Rattle.words.proofs.Storing.{Listing}
 use Rattle.words.proofs.write_words.Given as goal
 
-abbrev pub invariant-loop-at : goal.invariant-loop-at
-invariant-loop-at l =
-    Listing alone l.text l.at.0 l.k l.starts l.ends l.whites l.widths l.initial.starts l.initial.ends l.initial.whites l.initial.widths
+abbrev pub invariant-loop-word : goal.invariant-loop-word
+invariant-loop-word g l = let c = g.C.Cell in Listing c.stored c.SIZE l.text l.at.0 l.k l.lists l.initial.lists
 
-abbrev pub decreases-loop-at : goal.decreases-loop-at
-decreases-loop-at l = length l.text - l.at.0
+abbrev pub decreases-loop-word : goal.decreases-loop-word
+decreases-loop-word g l = length l.text - l.at.0
