@@ -11,8 +11,10 @@ pub fn run_end<F: Fn(u8) -> bool>(text: &[u8], from: usize, passes: F) -> usize
     requires { F.IsAlwaysCallable passes }
     ensures { (test : ℕ → Bool) → AnswersAs F.Fn passes test → result ≡ from + count test (drop from text.now) }
 {
-    match text.get(from..) {
-        Some(rest) => from + rest.iter().take_while(|b| passes(**b)).count(),
-        None => from,
+    for at in from..text.len() {
+        if !passes(text[at]) {
+            return at;
+        }
     }
+    from.max(text.len())
 }

@@ -1,26 +1,20 @@
--- `run_end`: what the chain counts, by std's laws of chains, is `count`.
-use Rattle.std.proofs.Common.{rules, ◌≡◌, ℕ, List, length, take, drop, ◌∙◌, arith}
-use Rattle.std.specs.List.{prefix_len}
-use Rattle.std.proofs.lemmas.Grind.{common_steps}
-use Rattle.std.proofs.lemmas.Iterator.{YieldsList-from_slice}
-use Rattle.std.proofs.lemmas.Iterator.Search.{YieldsList-from_take_while}
-use Rattle.std.proofs.lemmas.Iterator.Consumers.{count_from_yields_List}
-use Rattle.std.proofs.lemmas.List.Folds.{length-prefix_len}
+-- `run_end`: a loop that counts, by the laws of `Counting`.
+use Rattle.std.proofs.Common.{◌≡◌, length, ◌+◌, drop, ◌≤◌, arith}
 use Rattle.logic.specs.Count.{count}
-use Rattle.logic.proofs.Count.{counting_start, counting_end}
-use Rattle.runs.proofs.Prefix.{prefix_len-count}
+use Rattle.logic.proofs.Count.{counting_start, counting_step, counting_stop, counting_end}
 use Rattle.runs.proofs.run_end.Goals as goal
 
-pub returns-in-Some : goal.returns-in-Some
-returns-in-Some g c = λ test h.
-    let rest : List ℕ = drop c.args.from c.args.text.now in
-    let there : c.in-Some.rest.now ≡ rest = grind (arith, common_steps, c.in-Some.ensures.lookup) in
-    let taken : c.count.result ≡ length (take (prefix_len test rest) rest) =
-    count_from_yields_List c.take_while.result c.count.result c.count.ensures.ran
-    (YieldsList-from_take_while _ test (YieldsList-from_slice rest cc) c.take_while.ensures.closure c.take_while.ensures.done (λ x b q k. search (rules, h.at)))
-    in
-    let n : c.count.result ≡ count test rest = taken ∙ length-prefix_len test rest ∙ prefix_len-count test rest in
-    omega arith
+pub loop-at-init : goal.loop-at-init
+loop-at-init g c = λ test h. counting_start test _ _
+
+pub returns-then-not-passes : goal.returns-then-not-passes
+returns-then-not-passes g c = λ test h. counting_stop (c.loop-at.invariant test h) c.loop-at-test.true (h.at _ _ c.passes.ensures) c.if-not-passes.true
+
+pub loop-at-preserved : goal.loop-at-preserved
+loop-at-preserved g c = λ test h. counting_step (c.loop-at.invariant test h) c.loop-at-test.true (h.at _ _ c.passes.ensures) c.if-not-passes.false
 
 pub returns : goal.returns
-returns g c = λ test h. counting_end (counting_start test _ _) (omega (arith, c.in-None.ensures.lookup))
+returns g c = λ test h.
+    let here = counting_end (c.loop-at.invariant test h) (omega (arith, c.loop-at-test.false)) in
+    let before : length c.args.text.now ≤ c.args.from → c.args.from ≡ c.args.from + count test (drop c.args.from c.args.text.now) = λ l. counting_end (counting_start test _ _) l in
+    grind (arith, c.max.ensures, c.loop-at.auto.at-end, here, before)
