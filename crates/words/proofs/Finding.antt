@@ -1,14 +1,14 @@
 -- What `room_for_words` and `find_words` answer, one law for each way through them.
 use mathlib.Core.Path.{◌≡◌, sym, ◌∙◌}
 use mathlib.Core.List.{List}
-use Prim.Native.Nat.{ℕ, min, ◌/◌, ◌≤◌, ◌<◌}
+use Prim.Native.Nat.{ℕ, ◌/◌, ◌≤◌, ◌<◌}
 use native.Mathlib.Omega.{arith}
 use lib.Dec.{ltb}
 use lib.ListN.{length}
 use borrow.Author.Tests.{lt-ltb, le-ltb, ltb-true, ltb-false}
 use Rattle.logic.proofs.Choice.{both}
 use Rattle.words.specs.Words.{words}
-use Rattle.words.specs.Lists.{Room, fit_of}
+use Rattle.words.specs.Lists.{fit_of}
 use Rattle.words.proofs.Most.{words_most}
 use Rattle.std.specs.Prelude.{Err, Ok, Result, ⊤}
 use Rattle.limits.specs.declared.TextRefusal.TheVariants.{NoRoom}

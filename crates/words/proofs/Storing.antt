@@ -5,12 +5,9 @@ use Prim.Native.Nat.{ℕ, suc, ◌+◌, ◌-◌, ◌*◌, ◌≤◌, ◌<◌}
 use native.Mathlib.Omega.{arith}
 use lib.ListN.{length, drop, length-drop, length-append}
 use lib.Seq.{sets}
-use lib.Dec.{ltb}
-use borrow.Author.Tests.{ltb-true, ltb-false}
 use Rattle.units.specs.declared.Offset.{Offset}
 use Rattle.units.specs.Limits.{text_most}
 use Rattle.logic.specs.Flat.{flat}
-use Rattle.logic.proofs.Choice.{both}
 use Rattle.logic.proofs.Count.{count_fits}
 use Rattle.logic.proofs.Stored.{Stored, stored_start, stored_step, stored_end}
 use Rattle.wire.specs.Cells.{CellLaws}
@@ -20,7 +17,7 @@ use Rattle.measure.proofs.Laws.{width_bytes}
 use Rattle.words.specs.declared.Word.{Word}
 use Rattle.words.specs.declared.WordLists.{WordLists}
 use Rattle.words.specs.declared.Step.{Step}
-use Rattle.words.specs.declared.Step.TheVariants.{Found, End}
+use Rattle.words.specs.declared.Step.TheVariants.{Found}
 use Rattle.words.specs.Words.{letter, content, content_end, white, after_word, word_at, words, step_at}
 use Rattle.words.specs.Lists.{start_of, end_of, white_of, width_of_word, Small, PutAt, Same, room}
 use Rattle.words.proofs.Stepping.{length_content}
@@ -171,17 +168,6 @@ module _ {A : Type 0} {stored : List ℕ → List A} {size : ℕ} {s : List ℕ}
         let m = count_fits letter (drop at s) in
         rw f.0 (record { start = omega arith; end = omega (arith, i); white = omega (arith, i); width = omega (arith, b, n, m, length-drop at s) })
 
-  -- It finds one before the end, and none at it.
-  pub listing_over : (r : Step) → r ≡ step_at s at → ((w : Word) (o : Offset) → r ≡ Found w o → ⊥) → length s ≤ at
-  listing_over r e o =
-      both (ltb at (length s))
-      (λ t. absurd (o (word_at s at) (record { 0 = after_word s at }) (e ∙ step_whole s at (ltb-true at (length s) t) p.whole)))
-      (λ t. ltb-false at (length s) t)
-
--- Where the step finds a word, the text goes on.
-pub found_inside : (s : List ℕ) (i : ℕ) {r : Step} {w : Word} {o : Offset} → r ≡ Found w o → r ≡ step_at s i → i < length s
-unfolding step_at
-found_inside s i {r} {w} {o} p e =
-    both (ltb i (length s))
-    (λ t. ltb-true i (length s) t)
-    (λ t. let z : Found w o ≡ End = sym p ∙ e ∙ rw t in cc)
+    -- It always finds one.
+    pub listing_never : (r : Step) → r ≡ step_at s at → ((w : Word) (o : Offset) → r ≡ Found w o → ⊥) → ⊥
+    listing_never r e o = o (word_at s at) (record { 0 = after_word s at }) (e ∙ step_whole s at l p.whole)

@@ -165,7 +165,10 @@ fn write_words<C: Cell<u32>>(text: &[u8], lists: &mut WordLists<'_, C>) -> usize
 {
     let mut at = Offset(0);
     let mut k = 0;
-    while let Step::Found(word, after) = next_word(text, at) {
+    while at.0 < text.len() {
+        let Step::Found(word, after) = next_word(text, at) else {
+            return k;
+        };
         lists.put(C::SIZE * k, word);
         k += 1;
         at = after;
