@@ -6,12 +6,14 @@ use Prim.Native.Nat.{ℕ, ◌+◌, ◌-◌, ◌≤◌, ◌<◌}
 use native.Mathlib.Omega.{arith}
 use lib.ListN.{length, drop}
 use lib.Dec.{ltb}
+use borrow.Author.Tests.{ltb-false}
 use Rattle.std.specs.Prelude.{Result, Ok, Err, IfOk, ⊤}
 use Rattle.units.specs.declared.Answer.{Answer}
 use Rattle.units.specs.declared.Columns.{Columns}
 use Rattle.units.specs.Limits.{text_most, width_most}
 use Rattle.units.specs.Answers.{success}
 use Rattle.chars.specs.Utf8.{first_fault, Whole}
+use Rattle.chars.proofs.Laws.{fault_fits}
 use Rattle.limits.specs.declared.TextRefusal.{TextRefusal}
 use Rattle.limits.specs.Limits.{admitted, narrow, refusal_of}
 use Rattle.limits.proofs.Laws.{Admitted, admitted_ok, narrow_ok}
@@ -57,6 +59,25 @@ shows_if s width {a} {r} e p = go r
     go : (r : Result Columns TextRefusal) → r ≡ narrow width → IfOk r (λ c. (c.0 ≡ width) × Shows s width)
     go (Ok c) q = let k = narrow_ok width q in (ap (λ (c : Columns). c.0) k.0, record { short = front.short; whole = front.whole; narrow = k.1 })
     go (Err why) q = tt
+
+-- Nor is what is answered 0.
+pub show_shows : (s : List ℕ) (width : ℕ) {a : Answer} → a ≡ show_answer s width → a.number ≡ 0 → Shows s width
+unfolding show_answer
+show_shows s width e z =
+    both (ltb text_most (length s))
+    (λ p. let k : 1 ≡ 0 = rw (e, p) at z in absurd (omega arith))
+    (λ p. both (ltb (first_fault s) (length s))
+    (λ q. let k : 2 ≡ 0 = rw (e, p, q) at z in absurd (omega arith))
+    (λ q. both (ltb width_most width)
+    (λ w. let k : 3 ≡ 0 = rw (e, p, q, w) at z in absurd (omega arith))
+    (λ w. record {
+      short = ltb-false text_most (length s) p;
+      whole = omega (arith, ltb-false (first_fault s) (length s) q, fault_fits s);
+      narrow = ltb-false width_most width w;
+    })))
+
+pub show_narrow : (s : List ℕ) (width : ℕ) {a : Answer} → a ≡ show_answer s width → a.number ≡ 0 → width ≤ width_most
+show_narrow s width e z = (show_shows s width e z).narrow
 
 -- ---- the lines
 

@@ -4,7 +4,8 @@
 // run the same code.
 #![tactic(auto)]
 
-ghost use Rattle.std.specs.Prelude.{◌≡◌, ◌+◌, ◌≤◌, length, IfOk};
+ghost use Rattle.std.specs.Prelude.{◌≡◌, ◌+◌, ◌≤◌, length, take, IfOk};
+ghost use Rattle.std.specs.Io.KnownBytes.{Consumes};
 ghost use Rattle.slips.specs.Show.{Shows, shown_at, show_answer};
 ghost use Rattle.slips.specs.Rooms.{text_room, line_room, argument_room, block_room};
 
@@ -102,9 +103,11 @@ fn send<W: Write>(rt: &HostRuntime, output: &mut W, bytes: &[u8]) -> Result<(), 
 
 // ---- texts
 
-// Reads into the buffer until it is full or the input ends. Answers how many bytes came.
+// Reads into the buffer until it is full or the input ends. Answers how many bytes came: of a reader whose bytes
+// are known, those that it has no longer.
 fn read_text<R: Read>(input: &mut R, buffer: &mut [u8]) -> io::Result<usize>
-    ensures { IfOk result (λ n. n ≤ length buffer.old) }
+    ensures in_bounds { IfOk result (λ n. n ≤ length buffer.old) }
+    ensures bytes { IfOk result (λ n. Consumes (R.remaining input.old) (R.remaining input.new) (take n buffer.new)) }
 {
     let (count, ended) = streams::read_until_error(input, buffer);
     ended?;
@@ -209,12 +212,12 @@ impl Desk<'_> {
     fn refuse<R, W: Write, E: Write>(
         &mut self,
         ends: &mut Ends<R, W, E>,
-        why: TextRefusal,
+        answer: Answer,
         width: u32,
         text: &[u8],
     ) -> Result<(), Stop> {
         self.put(&mut ends.error, |line| {
-            refusals::refusal_line(line, Answer::from(why), width, text, text)
+            refusals::refusal_line(line, answer, width, text, text)
         })?;
         Err(Stop::Refused)
     }
@@ -227,7 +230,7 @@ impl Desk<'_> {
     ) -> Result<(), Stop> {
         let columns = match measure::display_width(text) {
             Ok(columns) => columns,
-            Err(why) => return self.refuse(ends, why, WIDTH, text),
+            Err(why) => return self.refuse(ends, Answer::from(why), WIDTH, text),
         };
         self.put(
             &mut ends.output,
@@ -265,7 +268,7 @@ impl Desk<'_> {
         requires { length text.now ≤ text_room }
     {
         if let Err(why) = reader::open_at(text).answer {
-            return self.refuse(ends, why, WIDTH, text);
+            return self.refuse(ends, Answer::from(why), WIDTH, text);
         }
         let mut from = Offset(0);
         let mut count = 0;
@@ -289,7 +292,7 @@ impl Desk<'_> {
     ) -> Result<(), Stop> {
         match fill::fill_inplace(text, width) {
             Ok(_) => send(self.rt, &mut ends.output, text),
-            Err(why) => self.refuse(ends, why, width, text),
+            Err(why) => self.refuse(ends, Answer::from(why), width, text),
         }
     }
 
@@ -335,16 +338,18 @@ impl Desk<'_> {
     }
 
     // Writes the slip as a printer of some width prints a text.
+    #[tactic(auto, using(crate::proofs::Showing::show_shows, crate::proofs::Showing::show_narrow))]
     fn put_slip<R, W: Write, E: Write>(
         &mut self,
         ends: &mut Ends<R, W, E>,
         text: &[u8],
         width: u32,
     ) -> Result<(), Stop> {
-        let columns = match shown_at(text, width) {
-            Ok(columns) => columns.0,
-            Err(why) => return self.refuse(ends, why, width, text),
-        };
+        let answer = show_answer(text, width);
+        if answer.number != 0 {
+            return self.refuse(ends, answer, width, text);
+        }
+        let columns = width as usize;
         self.put(&mut ends.output, |line| shown::ruler(line, columns))?;
         let tally = self.put_rows(ends, text, columns)?;
         self.put(&mut ends.output, |line| shown::summary(line, tally))
