@@ -30,16 +30,6 @@ fn part_words(line: &mut [u8]) {
     }
 }
 
-// How many bytes a command line has before its newline.
-fn body_len(line: &[u8]) -> usize
-    ensures { result ≤ length line.now }
-{
-    match line.strip_suffix(b"\n") {
-        Some(body) => body.len(),
-        None => line.len(),
-    }
-}
-
 // Writes what a command line ends with.
 fn put_end(rt: &HostRuntime, status: u8) -> io::Result<()> {
     println!(rt; "ends with {status}\n")
@@ -63,9 +53,11 @@ fn run_case(rt: &HostRuntime, line: &mut [u8], input: &[u8]) -> io::Result<()> {
 
 // Runs each of the command lines.
 fn run_all(rt: &HostRuntime, lines: &mut [u8], input: &[u8]) -> io::Result<()> {
-    for line in lines.split_inclusive_mut(|b| *b == NEWLINE) {
-        let end = body_len(line);
-        run_case(rt, &mut line[..end], input)?;
+    let mut from = 0;
+    while from < lines.len() {
+        let end = streams::end_of_part(lines, from, NEWLINE);
+        run_case(rt, &mut lines[from..end], input)?;
+        from = end + 1;
     }
     Ok(())
 }

@@ -187,8 +187,11 @@ fn list_all(rt: &HostRuntime, input: &[u8], width: u32, places: usize) -> io::Re
         whites: &mut whites[..places],
         widths: &mut widths[..places],
     };
-    for text in input.split(|b| *b == BETWEEN) {
-        list_text(rt, text, width, &mut lists)?;
+    let mut from = 0;
+    while from <= input.len() {
+        let end = streams::end_of_part(input, from, BETWEEN);
+        list_text(rt, &input[from..end], width, &mut lists)?;
+        from = end + 1;
     }
     Ok(())
 }
