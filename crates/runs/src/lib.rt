@@ -12,7 +12,8 @@ pub fn run_end<F: Fn(u8) -> bool>(text: &[u8], from: usize, passes: F) -> usize
     ensures { (test : ℕ → Bool) → AnswersAs F.Fn passes test → result ≡ from + count test (drop from text.now) }
 {
     for at in from..text.len() {
-        if !passes(text[at]) {
+        let on = passes(text[at]);
+        if !on {
             return at;
         }
     }

@@ -7,11 +7,11 @@ use Rattle.runs.proofs.run_end.Goals as goal
 pub loop-at-init : goal.loop-at-init
 loop-at-init g c = λ test h. counting_start test _ _
 
-pub returns-then-not-passes : goal.returns-then-not-passes
-returns-then-not-passes g c = λ test h. counting_stop (c.loop-at.invariant test h) c.loop-at-test.true (h.at _ _ c.passes.ensures) c.if-not-passes.true
+pub returns-then-not-on : goal.returns-then-not-on
+returns-then-not-on g c = λ test h. counting_stop (c.loop-at.invariant test h) c.loop-at-test.true (h.at _ _ c.passes-on.ensures) c.if-not-on.true
 
 pub loop-at-preserved : goal.loop-at-preserved
-loop-at-preserved g c = λ test h. counting_step (c.loop-at.invariant test h) c.loop-at-test.true (h.at _ _ c.passes.ensures) c.if-not-passes.false
+loop-at-preserved g c = λ test h. counting_step (c.loop-at.invariant test h) c.loop-at-test.true (h.at _ _ c.passes-on.ensures) c.if-not-on.false
 
 pub returns : goal.returns
 returns g c = λ test h.
