@@ -1,7 +1,7 @@
 -- Layouts, compared with the stored ones: the ends of lines and the cost, one law for each way through.
 use mathlib.Core.Path.{◌≡◌, sym, ap, ◌∙◌}
 use mathlib.Core.Bool.{Bool, true, false}
-use mathlib.Core.List.{List, [], ◌∷◌}
+use mathlib.Core.List.{List, [], ◌∷◌, map}
 use Prim.Native.Nat.{ℕ, ◌+◌, ◌-◌, ◌*◌, ◌/◌, ◌≤◌, ◌<◌, max}
 use native.Mathlib.Omega.{arith}
 use lib.Dec.{ltb}
@@ -10,6 +10,7 @@ use lib.Seq.{sets, length-sets, length-take-le, get_or-take, take_all}
 use borrow.Author.Tests.{lt-ltb, le-ltb, eq-eqb, ne_eqb, ltb-false}
 use Rattle.std.specs.Prelude.{Result, Ok, Err}
 use Rattle.std.specs.Int.{w32, from_be_bytes}
+use Rattle.std.proofs.lemmas.List.{map-id}
 use Rattle.logic.proofs.Choice.{both}
 use Rattle.wire.specs.Wire.{numbers16}
 use Rattle.wire.proofs.Laws.{numbers_length}
@@ -91,14 +92,18 @@ module _ (cost : ℕ) (es st : List ℕ) where
     unfolding weighed
     weigh_other n = rw (le-ltb (length st) 4 h, ← here, ne_eqb b cost n)
 
-    module _ (e : b ≡ cost) {r : Bool} (t : r ≡ holds es (part 4 (length st) st)) where
+    -- The ends are held against the stored ones as they are.
+    module _ (e : b ≡ cost) {r : Bool} (t : r ≡ holds (map (λ n. n) es) (part 4 (length st) st)) where
+      same_ends : r ≡ holds es (part 4 (length st) st)
+      same_ends = rw map-id at t
+
       pub weigh_same : r ≡ true → Agreed ≡ weighed cost es st
       unfolding weighed
-      weigh_same g = rw (le-ltb (length st) 4 h, ← here, eq-eqb b cost e, ← t, g)
+      weigh_same g = rw (le-ltb (length st) 4 h, ← here, eq-eqb b cost e, ← same_ends, g)
 
       pub weigh_tied : r ≡ false → Tied ≡ weighed cost es st
       unfolding weighed
-      weigh_tied g = rw (le-ltb (length st) 4 h, ← here, eq-eqb b cost e, ← t, g)
+      weigh_tied g = rw (le-ltb (length st) 4 h, ← here, eq-eqb b cost e, ← same_ends, g)
 
 pub ruleset weighing = (weigh_short, weigh_other, weigh_same, weigh_tied)
 
