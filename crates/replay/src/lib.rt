@@ -149,18 +149,23 @@ impl TryFrom<u8> for Kind {
 }
 
 impl fmt::Display for Kind {
+    ghost use Rattle.std.specs.Prelude.{Some};
+    ghost use Rattle.replay.specs.Names.{name_of};
+
+    ghost output = { λ kind. Some (name_of kind) };
+
     // The name of what is asked.
     fn fmt<W: fmt::Write>(&self, f: &mut fmt::Formatter<W>) -> fmt::Result {
-        f.write_str(match self {
-            Kind::Measure => "measure",
-            Kind::List(Listing::Words) => "words",
-            Kind::List(Listing::Apart) => "break_apart",
-            Kind::List(Listing::Broken) => "break_words",
-            Kind::Lay(Layout::FirstFit) => "first fit",
-            Kind::Lay(Layout::LeastCost) => "least cost",
-            Kind::Fill => "fill",
-            Kind::Turn => "nothing",
-        })
+        match self {
+            Kind::Measure => f.write_str("measure"),
+            Kind::List(Listing::Words) => f.write_str("words"),
+            Kind::List(Listing::Apart) => f.write_str("break_apart"),
+            Kind::List(Listing::Broken) => f.write_str("break_words"),
+            Kind::Lay(Layout::FirstFit) => f.write_str("first fit"),
+            Kind::Lay(Layout::LeastCost) => f.write_str("least cost"),
+            Kind::Fill => f.write_str("fill"),
+            Kind::Turn => f.write_str("nothing"),
+        }
     }
 }
 
@@ -256,7 +261,8 @@ fn lists_agree(
     }
 }
 
-// The same in lists of its own.
+// The same in lists of its own, which take stack for these kinds alone: the function stays one of its own.
+#[inline(never)]
 fn listed_agrees(listing: Listing, width: u32, text: &[u8], stored: &[u8]) -> bool
     ensures { result ≡ lists_agree listing width text.now text_most stored.now }
 {
@@ -446,7 +452,8 @@ fn asked_verdict(layout: Layout, asked: &[u8], numbers: &mut [u16], stored: &[u8
     numbers_verdict(layout, &numbers[..count], stored)
 }
 
-// The same, with a list of its own.
+// The same, with a list of its own, which takes stack for these kinds alone.
+#[inline(never)]
 #[tactic(auto, unfolding(crate::specs::Replay::layout_verdict))]
 fn layout_verdict(layout: Layout, asked: &[u8], stored: &[u8]) -> Verdict
     ensures { result ≡ layout_verdict layout asked.now stored.now }
