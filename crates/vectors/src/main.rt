@@ -24,7 +24,8 @@ struct State {
 }
 
 impl State {
-    // Writes how the last run of records of one kind came out, if there is one.
+    // Writes how the last run of records of one kind came out, if there is one. Each piece is a write of its own:
+    // an output that has little room left takes the pieces that fit.
     fn put_run(self, rt: &HostRuntime) -> io::Result<()> {
         let tally = self.tally;
         let Some(kind) = self.kind else {
@@ -33,10 +34,17 @@ impl State {
         if tally.replayed == 0 {
             return Ok(());
         }
-        let (replayed, agreed, tied) = (tally.replayed, tally.agreed, tally.tied);
-        print!(rt; "{kind}: {replayed} replayed, {agreed} agreed, {tied} tied")?;
+        print!(rt; "{kind}")?;
+        print!(rt; ": ")?;
+        rt.print(tally.replayed)?;
+        print!(rt; " replayed, ")?;
+        rt.print(tally.agreed)?;
+        print!(rt; " agreed, ")?;
+        rt.print(tally.tied)?;
+        print!(rt; " tied")?;
         if let Some(first) = tally.first {
-            print!(rt; ", first that differs: record {first}")?;
+            print!(rt; ", first that differs: record ")?;
+            rt.print(first)?;
         }
         println!(rt; "")
     }
@@ -44,7 +52,9 @@ impl State {
     // Writes how the last run came out and why no further record is read, with the number of a record.
     fn stopped(self, rt: &HostRuntime, why: &str, number: u64) -> io::Result<Option<State>> {
         self.put_run(rt)?;
-        println!(rt; "{why} record {number}")?;
+        print!(rt; "{why} record ")?;
+        rt.print(number)?;
+        println!(rt; "")?;
         Ok(None)
     }
 
